@@ -1,0 +1,4 @@
+pub mod Gaps
+pub mod Runs
+pub mod Allowed
+pub mod Table
