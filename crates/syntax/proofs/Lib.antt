@@ -2,3 +2,4 @@ pub mod Gaps
 pub mod Runs
 pub mod Allowed
 pub mod Table
+pub mod CompleteParts
