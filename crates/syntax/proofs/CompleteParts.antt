@@ -9,7 +9,7 @@ use lib.ListN.{length, getD, drop}
 use lib.Dec.{eqb}
 use Rattle.std.specs.Holes.{between}
 use Rattle.std.proofs.shelf.Edits.{between-none, between-more}
-use Rattle.std.proofs.shelf.Tests.{cond-true, cond-false, cases-lt}
+use Rattle.std.proofs.shelf.Tests.{cond-true, cond-false, cases-lt, eq-eqb}
 use Rattle.std.proofs.shelf.Ways.{tells}
 use Rattle.std.specs.declared.option.Option.the-variants.{Some, None}
 use Rattle.syntax.specs.declared.kinds.Digits.{Digits}
@@ -20,9 +20,9 @@ use Rattle.syntax.specs.declared.kinds.Literal.{Literal}
 use Rattle.syntax.specs.declared.kinds.Literal.the-variants.{Null, False, True}
 use Rattle.syntax.specs.Bytes.{white, digit, hex, escaped, unescaped, mark, sign, gap}
 use Rattle.syntax.specs.Value.{Value, number, literal}
-use Rattle.syntax.specs.Machine.{Rules, run, State, Mode, live, over, whole, step, step-live, step-chars, step-digits, step-first, step-after, finish, Frame, in-array, in-object, Role, as-value, as-name, value, first, name1, name, colon, chars, digits, after, word, spelled, deliver, plain, next-letters, next-digits, ended}
+use Rattle.syntax.specs.Machine.{Rules, run, State, Mode, live, over, whole, step, step-live, step-chars, step-digits, step-first, step-after, finish, Frame, in-array, in-object, Role, as-value, as-name, value, first, name1, name, colon, chars, digits, after, word, spelled, deliver, closed, plain, next-letters, next-digits, ended}
 use Rattle.syntax.specs.Steps.{Leads, Loose}
-use Rattle.syntax.specs.Grammar.{Byte, Ws, space, Word, done, letter, spelling, Chars, char, escape, unicode, Int, zero, Frac, point, Exp, power, Number}
+use Rattle.syntax.specs.Grammar.{Byte, Ws, space, Word, done, letter, spelling, Quoted, Chars, char, escape, unicode, Int, zero, Frac, point, Exp, power, Number}
 use Rattle.syntax.specs.Grammar as g
 use Rattle.syntax.proofs.Gaps.{gap-white, gap-solid, gap-end}
 use Rattle.syntax.proofs.Runs.{at-byte, alike, loose-step}
@@ -72,6 +72,99 @@ no-quote b u = grind (arith, tells)
 escaped-char : (b : ℕ) → escaped b ≡ true → next-letters Escape b ≡ Some Plain
 escaped-char b e = grind (arith, tells)
 
+-- what a number has come to: past its integer part; before its exponent
+abbrev Front : Digits → Type 0
+Front Minus = ⊥
+Front Zero = Unit {0}
+Front Whole = Unit {0}
+Front Point = ⊥
+Front Fraction = ⊥
+Front Mark = ⊥
+Front Sign = ⊥
+Front Power = ⊥
+
+abbrev Early : Digits → Type 0
+Early Minus = ⊥
+Early Zero = Unit {0}
+Early Whole = Unit {0}
+Early Point = ⊥
+Early Fraction = Unit {0}
+Early Mark = ⊥
+Early Sign = ⊥
+Early Power = ⊥
+
+abbrev Over : Digits → Type 0
+Over h = ended h ≡ true
+
+early : (h : Digits) → Front h → Early h
+early Minus f = absurd f
+early Zero f = tt
+early Whole f = tt
+early Point f = absurd f
+early Fraction f = absurd f
+early Mark f = absurd f
+early Sign f = absurd f
+early Power f = absurd f
+
+ends : (h : Digits) → Early h → Over h
+ends Minus f = absurd f
+ends Zero f = refl
+ends Whole f = refl
+ends Point f = absurd f
+ends Fraction f = refl
+ends Mark f = absurd f
+ends Sign f = absurd f
+ends Power f = absurd f
+
+at-point : (h : Digits) → Front h → next-digits h 46 ≡ Some Point
+at-point Minus f = absurd f
+at-point Zero f = refl
+at-point Whole f = refl
+at-point Point f = absurd f
+at-point Fraction f = absurd f
+at-point Mark f = absurd f
+at-point Sign f = absurd f
+at-point Power f = absurd f
+
+at-mark : (h : Digits) (b : ℕ) → Early h → mark b ≡ true → next-digits h b ≡ Some Mark
+at-mark Minus b f e = absurd f
+at-mark Zero b f e = grind (arith, tells)
+at-mark Whole b f e = grind (arith, tells)
+at-mark Point b f e = absurd f
+at-mark Fraction b f e = grind (arith, tells)
+at-mark Mark b f e = absurd f
+at-mark Sign b f e = absurd f
+at-mark Power b f e = absurd f
+
+at-sign : (b : ℕ) → sign b ≡ true → next-digits Mark b ≡ Some Sign
+at-sign b e = grind (arith, tells)
+
+whole-more : (b : ℕ) → digit b ≡ true → next-digits Whole b ≡ Some Whole
+whole-more b e = cond-true _ _ _ e
+
+fraction-more : (b : ℕ) → digit b ≡ true → next-digits Fraction b ≡ Some Fraction
+fraction-more b e = cond-true _ _ _ e
+
+power-more : (b : ℕ) → digit b ≡ true → next-digits Power b ≡ Some Power
+power-more b e = cond-true _ _ _ e
+
+minus-whole : (b : ℕ) → 49 ≤ b → b ≤ 57 → next-digits Minus b ≡ Some Whole
+minus-whole b h l = grind (arith, tells)
+
+whole-first : (r : Rules) (k : List Frame) (b i : ℕ) → 49 ≤ b → b ≤ 57 → step-live r value k b i ≡ live (digits Whole i (b ∷ [])) k
+whole-first r k b i h l = grind (arith, tells)
+
+-- no number goes on with a byte that may stand behind a value
+stopped : (h : Digits) (b : ℕ) → stopper b ≡ true → next-digits h b ≡ None
+stopped Minus b e = grind (arith, tells)
+stopped Zero b e = grind (arith, tells)
+stopped Whole b e = grind (arith, tells)
+stopped Point b e = grind (arith, tells)
+stopped Fraction b e = grind (arith, tells)
+stopped Mark b e = grind (arith, tells)
+stopped Sign b e = grind (arith, tells)
+stopped Power b e = grind (arith, tells)
+
 module _ (r : Rules) (s : List ℕ) where
   -- one byte of the grammar is one byte on
   pub byte-on : {i b j : ℕ} (a c : State) → Byte s i b j → step r a b i ≡ c → Leads r s i a j c
@@ -100,3 +193,21 @@ module _ (r : Rules) (s : List ℕ) where
       ∙ letter-on Four Three e q p k a (omega arith) refl (cond-true _ _ _ ha) ∙ letter-on Three Two e q p k b (omega arith) refl (cond-true _ _ _ hb)
       ∙ letter-on Two One e q p k c (omega arith) refl (cond-true _ _ _ hc) ∙ letter-on One Plain e q p k d (omega arith) refl (cond-true _ _ _ hd)
       ∙ chars-run t e q p k (omega arith)
+
+  -- a string, from a state that takes its opening quote
+  pub quoted-run : {i j : ℕ} {n : List ℕ} (y : Quoted s i j n) (a : State) (e : Role) (k : List Frame) (c : State) → step r a 34 i ≡ live (chars Plain e i []) k → closed r e i n k (y .close) ≡ c → Leads r s i a j c
+  quoted-run {i = i} {n = n} y a e k c l m =
+      byte-on a _ (y .opens) (l ∙ ap (λ t. live (chars Plain e i t) k) (sym (between-none s (y .inner))))
+      ∙ chars-run (y .chars) e i (y .inner) k (omega arith)
+      ∙ byte-on (live (chars Plain e i (between (y .inner) (y .close) s)) k) c (y .closes) (ap (λ t. closed r e i t k (y .close)) (sym (y .bytes)) ∙ m)
+
+  -- a literal of which the bytes of a list are to come
+  word-run : {i j : ℕ} {bs : List ℕ} → Word s i j bs → (w : Literal) (p : ℕ) (k : List Frame) → Leads r s i (spelled bs w p k i) j (deliver (literal p j w) k)
+  word-run done w p k = refl
+  word-run (letter {i = i} {b = b} {bs = bs} x y) w p k =
+      byte-on (live (word b bs w p) k) _ x (cond-true _ _ _ (eq-eqb b b refl) ∙ ap (spelled bs w p k) (sym (x .next))) ∙ word-run y w p k
+
+  pub literal-run : {i j : ℕ} (w : Literal) → Word s i j (spelling w) → (k : List Frame) → Leads r s i (live value k) j (deliver (literal i j w) k)
+  literal-run {i = i} Null (letter x y) k = byte-on (live value k) _ x refl ∙ word-run y Null i k
+  literal-run {i = i} False (letter x y) k = byte-on (live value k) _ x refl ∙ word-run y False i k
+  literal-run {i = i} True (letter x y) k = byte-on (live value k) _ x refl ∙ word-run y True i k
