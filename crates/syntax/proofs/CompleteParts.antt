@@ -47,11 +47,53 @@ module _ {s : List ℕ} where
   pub ws-gap-end : {i : ℕ} → Ws s i (length s) → gap s i ≡ length s
   ws-gap-end w = ws-gap w (λ h. absurd (omega arith)) (omega arith)
 
-  chars-order : {i j : ℕ} → Chars s i j → i ≤ j
-  chars-order g.Chars.none = omega arith
-  chars-order (char x u c) = omega (arith, chars-order c)
-  chars-order (escape x y e c) = omega (arith, chars-order c)
-  chars-order (unicode x y a ha b hb c hc d hd h) = omega (arith, chars-order h)
+  -- where the parts end, within the bytes
+  chars-order : {i j : ℕ} → Chars s i j → i ≤ length s → (i ≤ j) × (j ≤ length s)
+  chars-order g.Chars.none l = (omega arith, l)
+  chars-order (char x u c) l = let h = chars-order c (omega arith) in (omega arith, h .1)
+  chars-order (escape x y e c) l = let h = chars-order c (omega arith) in (omega arith, h .1)
+  chars-order (unicode x y a ha b hb c hc d hd t) l = let h = chars-order t (omega arith) in (omega arith, h .1)
+
+  digits-order : {i j : ℕ} → g.Digits s i j → i ≤ length s → (i ≤ j) × (j ≤ length s)
+  digits-order g.Digits.none l = (omega arith, l)
+  digits-order (g.more x e y) l = let h = digits-order y (omega arith) in (omega arith, h .1)
+
+  minus-order : {i j : ℕ} → g.Minus s i j → i ≤ j
+  minus-order g.Minus.none = omega arith
+  minus-order (g.minus x) = omega arith
+
+  int-order : {i j : ℕ} → Int s i j → (i < j) × (j ≤ length s)
+  int-order (zero x) = (omega arith, omega arith)
+  int-order (g.whole x h l d) = let e = digits-order d (omega arith) in (omega arith, e .1)
+
+  frac-order : {i j : ℕ} → Frac s i j → i ≤ length s → (i ≤ j) × (j ≤ length s)
+  frac-order g.Frac.none l = (omega arith, l)
+  frac-order (point x y e d) l = let h = digits-order d (omega arith) in (omega arith, h .1)
+
+  exp-order : {i j : ℕ} → Exp s i j → i ≤ length s → (i ≤ j) × (j ≤ length s)
+  exp-order g.Exp.none l = (omega arith, l)
+  exp-order (power x o g.Sign.none y d ds) l = let h = digits-order ds (omega arith) in (omega arith, h .1)
+  exp-order (power x o (g.signed z w) y d ds) l = let h = digits-order ds (omega arith) in (omega arith, h .1)
+
+  pub number-order : {i j : ℕ} → Number s i j → (i < j) × (j ≤ length s)
+  number-order m =
+      let a = minus-order (m .minus) in
+      let b = int-order (m .int) in
+      let c = frac-order (m .frac) (b .1) in
+      let d = exp-order (m .exp) (c .1) in
+      (omega arith, d .1)
+
+  pub quoted-order : {i j : ℕ} {n : List ℕ} → Quoted s i j n → (i < j) × (j ≤ length s)
+  quoted-order y = let h = chars-order (y .chars) (omega arith) in (omega arith, omega arith)
+
+  word-order : {i j : ℕ} {bs : List ℕ} → Word s i j bs → i ≤ length s → (i ≤ j) × (j ≤ length s)
+  word-order done l = (omega arith, l)
+  word-order (letter x y) l = let h = word-order y (omega arith) in (omega arith, h .1)
+
+  pub literal-order : {i j : ℕ} (w : Literal) → Word s i j (spelling w) → (i < j) × (j ≤ length s)
+  literal-order Null (letter x y) = let h = word-order y (omega arith) in (omega arith, h .1)
+  literal-order False (letter x y) = let h = word-order y (omega arith) in (omega arith, h .1)
+  literal-order True (letter x y) = let h = word-order y (omega arith) in (omega arith, h .1)
 
   pub ws-stops : {i j : ℕ} → Ws s i j → Stops s j → Stops s i
   ws-stops g.Ws.none h = h
@@ -165,6 +207,15 @@ stopped Mark b e = grind (arith, tells)
 stopped Sign b e = grind (arith, tells)
 stopped Power b e = grind (arith, tells)
 
+-- reading on from i comes to the place j inside the number that began at p, in a part that fits
+record Reached (P : Digits → Type 0) (r : Rules) (s : List ℕ) (i : ℕ) (a : State) (p j : ℕ) (k : List Frame) : Type 0 where
+  part : Digits
+  fit : P part
+  comes : Leads r s i a j (live (digits part p (between p j s)) k)
+
+behind : {P : Digits → Type 0} {r : Rules} {s : List ℕ} {i j l p : ℕ} {a c : State} {k : List Frame} → Leads r s i a j c → Reached P r s j c p l k → Reached P r s i a p l k
+behind x y = record { part = y .part; fit = y .fit; comes = x ∙ y .comes }
+
 module _ (r : Rules) (s : List ℕ) where
   -- one byte of the grammar is one byte on
   pub byte-on : {i b j : ℕ} (a c : State) → Byte s i b j → step r a b i ≡ c → Leads r s i a j c
@@ -177,6 +228,9 @@ module _ (r : Rules) (s : List ℕ) where
   -- one byte more of what is read since p
   longer : {i b j : ℕ} (p : ℕ) → p ≤ i → Byte s i b j → between p j s ≡ between p i s ++ b ∷ []
   longer {i = i} {b = b} {j = j} p h x = ap (λ y. between p y s) (x .next) ∙ between-more s p i 0 h (x .inside) ∙ ap (λ y. between p i s ++ y ∷ []) (x .is)
+
+  alone : {i b j : ℕ} → Byte s i b j → between i j s ≡ b ∷ []
+  alone {i = i} {b = b} x = longer i (omega arith) x ∙ ap (λ l. l ++ b ∷ []) (between-none s i)
 
   -- a string goes on
   letter-on : {i b j : ℕ} (o u : Letters) (e : Role) (q p : ℕ) (k : List Frame) → Byte s i b j → p ≤ i → (plain o && eqb b 34) ≡ false → next-letters o b ≡ Some u → Leads r s i (live (chars o e q (between p i s)) k) j (live (chars u e q (between p j s)) k)
@@ -211,3 +265,53 @@ module _ (r : Rules) (s : List ℕ) where
   literal-run {i = i} Null (letter x y) k = byte-on (live value k) _ x refl ∙ word-run y Null i k
   literal-run {i = i} False (letter x y) k = byte-on (live value k) _ x refl ∙ word-run y False i k
   literal-run {i = i} True (letter x y) k = byte-on (live value k) _ x refl ∙ word-run y True i k
+
+  -- a number goes on
+  digit-on : {i b j : ℕ} (h u : Digits) (p : ℕ) (k : List Frame) → Byte s i b j → p ≤ i → next-digits h b ≡ Some u → Leads r s i (live (digits h p (between p i s)) k) j (live (digits u p (between p j s)) k)
+  digit-on {i = i} {b = b} h u p k x l n =
+      byte-on (live (digits h p (between p i s)) k) _ x (ap (λ t. step-digits t h p (between p i s) k b i) n ∙ ap (λ y. live (digits u p y) k) (sym (longer p l x)))
+
+  digits-run : {i j : ℕ} → g.Digits s i j → (h : Digits) → ((b : ℕ) → digit b ≡ true → next-digits h b ≡ Some h) → (p : ℕ) (k : List Frame) → p ≤ i → Leads r s i (live (digits h p (between p i s)) k) j (live (digits h p (between p j s)) k)
+  digits-run g.Digits.none h m p k l = refl
+  digits-run (g.more {b = b} x e y) h m p k l = digit-on h h p k x l (m b e) ∙ digits-run y h m p k (omega arith)
+
+  frac-run : {i j : ℕ} → Frac s i j → (h : Digits) → Front h → (p : ℕ) (k : List Frame) → p ≤ i → Reached Early r s i (live (digits h p (between p i s)) k) p j k
+  frac-run g.Frac.none h f p k l = record { part = h; fit = early h f; comes = refl }
+  frac-run (point x y e d) h f p k l =
+      record { part = Fraction; fit = tt; comes = digit-on h Point p k x l (at-point h f) ∙ digit-on Point Fraction p k y (omega arith) (cond-true _ _ _ e) ∙ digits-run d Fraction fraction-more p k (omega arith) }
+
+  exp-run : {i j : ℕ} → Exp s i j → (h : Digits) → Early h → (p : ℕ) (k : List Frame) → p ≤ i → Reached Over r s i (live (digits h p (between p i s)) k) p j k
+  exp-run g.Exp.none h f p k l = record { part = h; fit = ends h f; comes = refl }
+  exp-run (power {e = e} x o g.Sign.none y d ds) h f p k l =
+      record { part = Power; fit = refl; comes = digit-on h Mark p k x l (at-mark h e f o) ∙ digit-on Mark Power p k y (omega arith) (cond-true _ _ _ d) ∙ digits-run ds Power power-more p k (omega arith) }
+  exp-run (power {e = e} x o (g.signed {b = b} z w) y d ds) h f p k l =
+      record { part = Power; fit = refl; comes = digit-on h Mark p k x l (at-mark h e f o) ∙ digit-on Mark Sign p k z (omega arith) (at-sign b w) ∙ digit-on Sign Power p k y (omega arith) (cond-true _ _ _ d) ∙ digits-run ds Power power-more p k (omega arith) }
+
+  -- the integer part, at the beginning of a number and behind its minus
+  int-run : {i j : ℕ} → Int s i j → (k : List Frame) → Reached Front r s i (live value k) i j k
+  int-run {i = i} (zero x) k = record { part = Zero; fit = tt; comes = byte-on (live value k) _ x (ap (λ y. live (digits Zero i y) k) (sym (alone x))) }
+  int-run {i = i} (g.whole {b = b} x h l d) k =
+      record { part = Whole; fit = tt; comes = byte-on (live value k) _ x (whole-first r k b i h l ∙ ap (λ y. live (digits Whole i y) k) (sym (alone x))) ∙ digits-run d Whole whole-more i k (omega arith) }
+
+  int-behind : {i j : ℕ} → Int s i j → (p : ℕ) (k : List Frame) → p ≤ i → Reached Front r s i (live (digits Minus p (between p i s)) k) p j k
+  int-behind (zero x) p k l = record { part = Zero; fit = tt; comes = digit-on Minus Zero p k x l refl }
+  int-behind (g.whole {b = b} x h m d) p k l = record { part = Whole; fit = tt; comes = digit-on Minus Whole p k x l (minus-whole b h m) ∙ digits-run d Whole whole-more p k (omega arith) }
+
+  start-run : {i a j : ℕ} → g.Minus s i a → Int s a j → (k : List Frame) → Reached Front r s i (live value k) i j k
+  start-run g.Minus.none y k = int-run y k
+  start-run {i = i} (g.minus x) y k = behind (byte-on (live value k) _ x (ap (λ t. live (digits Minus i t) k) (sym (alone x)))) (int-behind y i k (omega arith))
+
+  -- a number ends where its value may stand
+  number-ends : (j p : ℕ) (h : Digits) (n : List ℕ) (k : List Frame) → Over h → Stops s j → Leads r s j (live (digits h p n) k) j (deliver (number p j n) k)
+  number-ends j p h n [] f e = alike r s j (live (digits h p n) []) (over (whole (number p j n))) (λ l. ap (λ t. step-digits t h p n [] (getD s j 0) j) (stopped h (getD s j 0) (e l)) ∙ cond-true _ _ _ f) (λ l. cond-true _ _ _ f)
+  number-ends j p h n (x ∷ k) f e = alike r s j (live (digits h p n) (x ∷ k)) (live (after (number p j n)) (x ∷ k)) (λ l. ap (λ t. step-digits t h p n (x ∷ k) (getD s j 0) j) (stopped h (getD s j 0) (e l)) ∙ cond-true _ _ _ f) (λ l. cond-true _ _ _ f)
+
+  pub number-run : {i j : ℕ} {n : List ℕ} → Number s i j → n ≡ between i j s → (k : List Frame) → Stops s j → Leads r s i (live value k) j (deliver (number i j n) k)
+  number-run {i = i} {j = j} m e k h =
+      let x = minus-order (m .minus) in
+      let y = int-order (m .int) in
+      let z = frac-order (m .frac) (y .1) in
+      let a = start-run (m .minus) (m .int) k in
+      let b = frac-run (m .frac) (a .part) (a .fit) i k (omega arith) in
+      let c = exp-run (m .exp) (b .part) (b .fit) i k (omega arith) in
+      a .comes ∙ b .comes ∙ c .comes ∙ number-ends j i (c .part) (between i j s) k (c .fit) h ∙ ap (λ t. run r (drop j s) j (deliver (number i j t) k)) (sym e)
