@@ -3,3 +3,4 @@ pub mod Runs
 pub mod Allowed
 pub mod Table
 pub mod CompleteParts
+pub mod Complete
