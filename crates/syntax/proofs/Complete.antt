@@ -41,3 +41,87 @@ module _ {s : List ℕ} where
     fields-order : {i j : ℕ} {ms : Members} → Fields s i j ms → (i < j) × (j ≤ length s)
     fields-order (g.last-field w q u c t x y b) = let h = spells-order x in let o = quoted-order q in (omega (arith, ws-order w, ws-order u, ws-order t, ws-order y), omega arith)
     fields-order (g.more-fields w q u c t x y b z) = let h = spells-order x in let o = quoted-order q in let e = fields-order z in (omega (arith, ws-order w, ws-order u, ws-order t, ws-order y), e .1)
+
+-- a value begins at i: no white space, and no closing bracket
+record Begun (s : List ℕ) (i : ℕ) : Type 0 where
+  solid : white (getD s i 0) ≡ false
+  item : eqb (getD s i 0) 93 ≡ false
+
+begun : {s : List ℕ} {i b j : ℕ} → Byte s i b j → white b ≡ false → eqb b 93 ≡ false → Begun s i
+begun x w e = record { solid = ap white (x .is) ∙ w; item = ap (λ y. eqb y 93) (x .is) ∙ e }
+
+digit-solid : (b : ℕ) → 49 ≤ b → b ≤ 57 → white b ≡ false
+digit-solid b h l = grind (arith, tells)
+
+digit-item : (b : ℕ) → 49 ≤ b → b ≤ 57 → eqb b 93 ≡ false
+digit-item b h l = grind (arith, tells)
+
+int-begun : {s : List ℕ} {i j : ℕ} → Int s i j → Begun s i
+int-begun (g.zero x) = begun x refl refl
+int-begun (g.whole {b = b} x h l d) = begun x (digit-solid b h l) (digit-item b h l)
+
+number-begun : {s : List ℕ} {i a j : ℕ} → g.Minus s i a → Int s a j → Begun s i
+number-begun g.Minus.none y = int-begun y
+number-begun (g.minus x) y = begun x refl refl
+
+literal-begun : {s : List ℕ} {i j : ℕ} (w : Literal) → Word s i j (spelling w) → Begun s i
+literal-begun Null (letter x y) = begun x refl refl
+literal-begun False (letter x y) = begun x refl refl
+literal-begun True (letter x y) = begun x refl refl
+
+spells-begun : {s : List ℕ} {v : Value} → Spells s v → Begun s (from v)
+spells-begun (g.literal {w = w} x) = literal-begun w x
+spells-begun (g.number x e) = number-begun (x .minus) (x .int)
+spells-begun (g.string x) = begun (x .opens) refl refl
+spells-begun (g.no-items x w y) = begun x refl refl
+spells-begun (g.array x y) = begun x refl refl
+spells-begun (g.no-members x w y) = begun x refl refl
+spells-begun (g.object x y) = begun x refl refl
+
+-- a value begins with no white space
+pub spells-solid : {s : List ℕ} {v : Value} → Spells s v → white (getD s (from v) 0) ≡ false
+spells-solid x = spells-begun x .solid
+
+-- items and members behind others
+abbrev with-items : Items → Items → Items
+with-items none vs = vs
+with-items (item w ws) vs = item w (with-items ws vs)
+
+abbrev with-members : Members → Members → Members
+with-members end ms = ms
+with-members (member q n w rest) ms = member q n w (with-members rest ms)
+
+one-item : (ws : Items) (v : Value) → more-items ws v ≡ with-items ws (item v none)
+one-item none v = refl
+one-item (item w ws) v = ap (item w) (one-item ws v)
+
+next-item : (ws : Items) (v : Value) (vs : Items) → with-items (more-items ws v) vs ≡ with-items ws (item v vs)
+next-item none v vs = refl
+next-item (item w ws) v vs = ap (item w) (next-item ws v vs)
+
+one-member : (before : Members) (q : ℕ) (n : List ℕ) (v : Value) → more-members before q n v ≡ with-members before (member q n v end)
+one-member end q n v = refl
+one-member (member p m w ms) q n v = ap (member p m w) (one-member ms q n v)
+
+next-member : (before : Members) (q : ℕ) (n : List ℕ) (v : Value) (ms : Members) → with-members (more-members before q n v) ms ≡ with-members before (member q n v ms)
+next-member end q n v ms = refl
+next-member (member p m w rest) q n v ms = ap (member p m w) (next-member rest q n v ms)
+
+module _ (r : Rules) (s : List ℕ) where
+  -- behind an opening bracket, where an item comes, the array goes on as behind a comma
+  first-alike : {v : Value} → Spells s v → (p : ℕ) (k : List Frame) → Leads r s (from v) (live (first p) k) (from v) (live value (in-array p none ∷ k))
+  first-alike {v} x p k =
+      let h = spells-begun x in
+      alike r s (from v) (live (first p) k) (live value (in-array p none ∷ k)) (λ l. cond-false _ _ _ (h .solid) ∙ cond-false _ _ _ (h .item) ∙ sym (cond-false _ _ _ (h .solid))) (λ l. refl)
+
+  first-elements : {i j : ℕ} {vs : Items} → Elements s i j vs → (p : ℕ) (k : List Frame) → Leads r s i (live (first p) k) i (live value (in-array p none ∷ k))
+  first-elements (g.last-item w x y b) p k = ws-run r s w (live (first p) k) tt ∙ first-alike x p k ∙ sym (ws-run r s w (live value (in-array p none ∷ k)) tt)
+  first-elements (g.more-items w x y b z) p k = ws-run r s w (live (first p) k) tt ∙ first-alike x p k ∙ sym (ws-run r s w (live value (in-array p none ∷ k)) tt)
+
+  -- the same of an opening brace and a name
+  name-alike : {q j : ℕ} {n : List ℕ} → Quoted s q j n → (p : ℕ) (k : List Frame) → Leads r s q (live (name1 p) k) q (live (name p end) k)
+  name-alike {q = q} x p k = alike r s q (live (name1 p) k) (live (name p end) k) (λ l. ap (λ b. step-live r (name1 p) k b q) (x .opens .is) ∙ sym (ap (λ b. step-live r (name p end) k b q) (x .opens .is))) (λ l. refl)
+
+  first-fields : {i j : ℕ} {ms : Members} → Fields s i j ms → (p : ℕ) (k : List Frame) → Leads r s i (live (name1 p) k) i (live (name p end) k)
+  first-fields (g.last-field w x u c t v y b) p k = ws-run r s w (live (name1 p) k) tt ∙ name-alike x p k ∙ sym (ws-run r s w (live (name p end) k) tt)
+  first-fields (g.more-fields w x u c t v y b z) p k = ws-run r s w (live (name1 p) k) tt ∙ name-alike x p k ∙ sym (ws-run r s w (live (name p end) k) tt)
