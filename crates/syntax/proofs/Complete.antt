@@ -125,3 +125,68 @@ module _ (r : Rules) (s : List ℕ) where
   first-fields : {i j : ℕ} {ms : Members} → Fields s i j ms → (p : ℕ) (k : List Frame) → Leads r s i (live (name1 p) k) i (live (name p end) k)
   first-fields (g.last-field w x u c t v y b) p k = ws-run r s w (live (name1 p) k) tt ∙ name-alike x p k ∙ sym (ws-run r s w (live (name p end) k) tt)
   first-fields (g.more-fields w x u c t v y b z) p k = ws-run r s w (live (name1 p) k) tt ∙ name-alike x p k ∙ sym (ws-run r s w (live (name p end) k) tt)
+
+  -- what comes behind an item
+  item-comma : {i c a : ℕ} → Ws s i c → Byte s c 44 a → (v : Value) (p : ℕ) (ws : Items) (k : List Frame) → Leads r s i (live (after v) (in-array p ws ∷ k)) a (live value (in-array p (more-items ws v) ∷ k))
+  item-comma w b v p ws k = ws-run r s w (live (after v) (in-array p ws ∷ k)) tt ∙ byte-on r s (live (after v) (in-array p ws ∷ k)) _ b refl
+
+  item-close : {i c j : ℕ} → Ws s i c → Byte s c 93 j → (v : Value) (p : ℕ) (ws : Items) (k : List Frame) → Leads r s i (live (after v) (in-array p ws ∷ k)) j (deliver (array p j (with-items ws (item v none))) k)
+  item-close {j = j} w b v p ws k =
+      ws-run r s w (live (after v) (in-array p ws ∷ k)) tt
+      ∙ byte-on r s (live (after v) (in-array p ws ∷ k)) _ b (ap (λ y. deliver (array p y (more-items ws v)) k) (sym (b .next)) ∙ ap (λ y. deliver (array p j y) k) (one-item ws v))
+
+  -- what comes behind a member
+  member-comma : {i c a : ℕ} → Ws s i c → Byte s c 44 a → (v : Value) (p : ℕ) (ms : Members) (q : ℕ) (n : List ℕ) (k : List Frame) → Leads r s i (live (after v) (in-object p ms q n ∷ k)) a (live (name p (more-members ms q n v)) k)
+  member-comma w b v p ms q n k = ws-run r s w (live (after v) (in-object p ms q n ∷ k)) tt ∙ byte-on r s (live (after v) (in-object p ms q n ∷ k)) _ b refl
+
+  member-close : {i c j : ℕ} → Ws s i c → Byte s c 125 j → (v : Value) (p : ℕ) (ms : Members) (q : ℕ) (n : List ℕ) (k : List Frame) → Leads r s i (live (after v) (in-object p ms q n ∷ k)) j (deliver (object p j (with-members ms (member q n v end))) k)
+  member-close {j = j} w b v p ms q n k =
+      ws-run r s w (live (after v) (in-object p ms q n ∷ k)) tt
+      ∙ byte-on r s (live (after v) (in-object p ms q n ∷ k)) _ b (ap (λ y. deliver (object p y (more-members ms q n v)) k) (sym (b .next)) ∙ ap (λ y. deliver (object p j y) k) (one-member ms q n v))
+
+  -- a name and its colon
+  name-run : {i q c d e f : ℕ} {n : List ℕ} → Ws s i q → Quoted s q c n → Ws s c d → Byte s d 58 e → Ws s e f → (p : ℕ) (ms : Members) (k : List Frame) → r .twice n ms ≡ false → Leads r s i (live (name p ms) k) f (live value (in-object p ms q n ∷ k))
+  name-run {q = q} {n = n} w x u b t p ms k h =
+      ws-run r s w (live (name p ms) k) tt
+      ∙ quoted-run r s x (live (name p ms) k) (as-name p ms) k (live (colon p ms q n) k) refl (cond-false _ _ _ h)
+      ∙ ws-run r s u (live (colon p ms q n) k) tt
+      ∙ byte-on r s (live (colon p ms q n) k) _ b refl
+      ∙ ws-run r s t (live value (in-object p ms q n ∷ k)) tt
+
+  mutual
+    value-run : {v : Value} → Spells s v → (k : List Frame) → Allowed r (length k) v → Stops s (to v) → Leads r s (from v) (live value k) (to v) (deliver v k)
+    value-run (g.literal {w = w} x) k a h = literal-run r s w x k
+    value-run (g.number x e) k a h = number-run r s x e k h
+    value-run (g.string {i = i} {j = j} {n = n} x) k a h = quoted-run r s x (live value k) as-value k (deliver (string i j n) k) refl (ap (λ y. deliver (string i y n) k) (sym (x .closes .next)))
+    value-run (g.no-items {i = i} x w y) k a h =
+        byte-on r s (live value k) (live (first i) k) x (cond-false _ _ _ (a .0)) ∙ ws-run r s w (live (first i) k) tt
+        ∙ byte-on r s (live (first i) k) _ y (ap (λ t. deliver (array i t none) k) (sym (y .next)))
+    value-run (g.array {i = i} x y) k a h = byte-on r s (live value k) (live (first i) k) x (cond-false _ _ _ (a .0)) ∙ first-elements y i k ∙ elements-run y i none k (a .1)
+    value-run (g.no-members {i = i} x w y) k a h =
+        byte-on r s (live value k) (live (name1 i) k) x (cond-false _ _ _ (a .0)) ∙ ws-run r s w (live (name1 i) k) tt
+        ∙ byte-on r s (live (name1 i) k) _ y (ap (λ t. deliver (object i t end) k) (sym (y .next)))
+    value-run (g.object {i = i} x y) k a h = byte-on r s (live value k) (live (name1 i) k) x (cond-false _ _ _ (a .0)) ∙ first-fields y i k ∙ fields-run y i end k (a .1)
+
+    elements-run : {i j : ℕ} {vs : Items} → Elements s i j vs → (p : ℕ) (ws : Items) (k : List Frame) → Allowed-items r (suc (length k)) vs → Leads r s i (live value (in-array p ws ∷ k)) j (deliver (array p j (with-items ws vs)) k)
+    elements-run (g.last-item {w = v} w x y b) p ws k a =
+        ws-run r s w (live value (in-array p ws ∷ k)) tt ∙ value-run x (in-array p ws ∷ k) (a .0) (ws-stops y (byte-stops b refl)) ∙ item-close y b v p ws k
+    elements-run (g.more-items {j = j} {w = v} {vs = vs} w x y b z) p ws k a =
+        ws-run r s w (live value (in-array p ws ∷ k)) tt ∙ value-run x (in-array p ws ∷ k) (a .0) (ws-stops y (byte-stops b refl)) ∙ item-comma y b v p ws k
+        ∙ elements-run z p (more-items ws v) k (a .1) ∙ ap (λ t. run r (drop j s) j (deliver (array p j t) k)) (next-item ws v vs)
+
+    fields-run : {i j : ℕ} {ms : Members} → Fields s i j ms → (p : ℕ) (before : Members) (k : List Frame) → Allowed-members r (suc (length k)) before ms → Leads r s i (live (name p before) k) j (deliver (object p j (with-members before ms)) k)
+    fields-run (g.last-field {q = q} {n = n} {w = v} w o u c t x y b) p before k a =
+        name-run w o u c t p before k (a .0) ∙ value-run x (in-object p before q n ∷ k) (a .1) (ws-stops y (byte-stops b refl)) ∙ member-close y b v p before q n k
+    fields-run (g.more-fields {q = q} {j = j} {n = n} {w = v} {ms = ms} w o u c t x y b z) p before k a =
+        name-run w o u c t p before k (a .0) ∙ value-run x (in-object p before q n ∷ k) (a .1) (ws-stops y (byte-stops b refl)) ∙ member-comma y b v p before q n k
+        ∙ fields-run z p (more-members before q n v) k (a .2) ∙ ap (λ t. run r (drop j s) j (deliver (object p j t) k)) (next-member before q n v ms)
+
+-- Reading goes through a value of the grammar that is allowed and has behind it what may stand there, and delivers it.
+pub complete : (r : Rules) (s : List ℕ) (v : Value) → Spells s v → (k : List Frame) → Allowed r (length k) v → Stops s (to v) → Leads r s (from v) (live value k) (to v) (deliver v k)
+complete r s v x k a h = value-run r s x k a h
+
+-- A text of the grammar that is allowed is read, and nothing comes behind its value.
+pub complete-text : (r : Rules) (s : List ℕ) (v : Value) → Text s v → Allowed r 0 v → (run r s 0 start ≡ whole v) × (gap s (to v) ≡ length s)
+complete-text r s v x a =
+    let h : Stops s (length s) = λ l. absurd (omega arith) in
+    (ws-run r s (x .before) start tt ∙ value-run r s (x .spells) [] a (ws-stops (x .behind) h) ∙ run-over r (drop (to v) s) (to v) (whole v), ws-gap-end (x .behind))
