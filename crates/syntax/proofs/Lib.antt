@@ -4,3 +4,4 @@ pub mod Allowed
 pub mod Table
 pub mod CompleteParts
 pub mod Complete
+pub mod Keeps
