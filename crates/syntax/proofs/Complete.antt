@@ -6,19 +6,23 @@ use Prim.Native.Nat.{ℕ, suc, _+_, _≤_, _<_}
 use native.Mathlib.Omega.{arith}
 use lib.ListN.{length, getD, drop}
 use lib.Dec.{eqb}
-use Rattle.std.proofs.shelf.Tests.{cond-true, cond-false}
+use Rattle.std.proofs.shelf.Tests.{cond-false, le-ltb}
 use Rattle.std.proofs.shelf.Ways.{tells}
+use Rattle.std.specs.declared.result.Result.the-variants.{Ok}
 use Rattle.syntax.specs.declared.kinds.Literal.{Literal}
 use Rattle.syntax.specs.declared.kinds.Literal.the-variants.{Null, False, True}
 use Rattle.syntax.specs.declared.kinds.Letters.the-variants.{Plain}
 use Rattle.syntax.specs.Bytes.{white, gap}
 use Rattle.syntax.specs.Value.{Value, Items, Members, from, to, literal, number, string, array, object, none, item, end, member, more-items, more-members}
-use Rattle.syntax.specs.Machine.{Rules, run, State, Mode, live, over, whole, Outcome, step, step-live, Frame, in-array, in-object, as-value, as-name, value, first, name1, name, colon, after, deliver, opened, start}
+use Rattle.syntax.specs.Machine.{Rules, run, State, Mode, live, over, whole, Outcome, step, step-live, Frame, in-array, in-object, as-value, as-name, value, first, name1, name, colon, after, deliver, grammar, limits, start}
 use Rattle.syntax.specs.Steps.{Leads}
 use Rattle.syntax.specs.Grammar.{Byte, Ws, Word, letter, spelling, Quoted, Int, Number, Spells, Elements, Fields, Text}
 use Rattle.syntax.specs.Grammar as g
-use Rattle.syntax.proofs.Runs.{alike, run-over, deliver-loose}
+use Rattle.syntax.specs.Reading.{reading, alone, longest}
+use Rattle.syntax.specs.Laws.{Lawful, One-value}
+use Rattle.syntax.proofs.Runs.{alike, run-over}
 use Rattle.syntax.proofs.Allowed.{Allowed, Allowed-items, Allowed-members}
+use Rattle.syntax.proofs.Keeps.{allowed-grammar, kept-allowed}
 pub use Rattle.syntax.proofs.CompleteParts.{stopper, Stops, ws-order, ws-gap, ws-gap-end}
 use Rattle.syntax.proofs.CompleteParts.{ws-stops, byte-stops, byte-on, ws-run, quoted-run, literal-run, number-run, number-order, quoted-order, literal-order}
 
@@ -190,3 +194,18 @@ pub complete-text : (r : Rules) (s : List ℕ) (v : Value) → Text s v → Allo
 complete-text r s v x a =
     let h : Stops s (length s) = λ l. absurd (omega arith) in
     (ws-run r s (x .before) start tt ∙ value-run r s (x .spells) [] a (ws-stops (x .behind) h) ∙ run-over r (drop (to v) s) (to v) (whole v), ws-gap-end (x .behind))
+
+-- A lawful text is read as the value that it spells.
+pub accepts : (s : List ℕ) (v : Value) → Lawful s v → reading s ≡ Ok v
+unfolding reading
+accepts s v x =
+    let c = complete-text (limits true) s v (x .text) (kept-allowed 0 v (x .kept)) in
+    let e = c .1 in
+    cond-false _ _ _ (le-ltb longest (length s) (x .short)) ∙ ap (alone s) (c .0) ∙ cond-false _ _ _ (le-ltb (gap s (to v)) (length s) (omega arith))
+
+-- Two derivations spell one value.
+pub one-value : One-value
+one-value s v w x y =
+    let a = complete-text grammar s v x (allowed-grammar 0 v) .0 in
+    let b = complete-text grammar s w y (allowed-grammar 0 w) .0 in
+    cc
