@@ -1,8 +1,8 @@
 -- What the grammar spells is read.
-use mathlib.Core.Path.{_≡_, refl, sym, ap, subst, _∙_}
-use mathlib.Core.List.{List, [], _∷_, _++_}
-use mathlib.Core.Bool.{Bool, true, false, cond}
-use Prim.Native.Nat.{ℕ, suc, _+_, _≤_, _<_}
+use mathlib.Core.Path.{_≡_, refl, sym, ap, _∙_}
+use mathlib.Core.List.{List, [], _∷_}
+use mathlib.Core.Bool.{true, false}
+use Prim.Native.Nat.{ℕ, suc, _≤_, _<_}
 use native.Mathlib.Omega.{arith}
 use lib.ListN.{length, getD, drop}
 use lib.Dec.{eqb}
@@ -11,12 +11,11 @@ use Rattle.std.proofs.shelf.Ways.{tells}
 use Rattle.std.specs.declared.result.Result.the-variants.{Ok}
 use Rattle.syntax.specs.declared.kinds.Literal.{Literal}
 use Rattle.syntax.specs.declared.kinds.Literal.the-variants.{Null, False, True}
-use Rattle.syntax.specs.declared.kinds.Letters.the-variants.{Plain}
 use Rattle.syntax.specs.Bytes.{white, gap}
 use Rattle.syntax.specs.Value.{Value, Items, Members, from, to, literal, number, string, array, object, none, item, end, member, more-items, more-members}
-use Rattle.syntax.specs.Machine.{Rules, run, State, Mode, live, over, whole, Outcome, step, step-live, Frame, in-array, in-object, as-value, as-name, value, first, name1, name, colon, after, deliver, grammar, limits, start}
+use Rattle.syntax.specs.Machine.{Rules, run, live, whole, step-live, Frame, in-array, in-object, as-value, as-name, value, first, name1, name, colon, after, deliver, grammar, limits, start}
 use Rattle.syntax.specs.Steps.{Leads}
-use Rattle.syntax.specs.Grammar.{Byte, Ws, Word, letter, spelling, Quoted, Int, Number, Spells, Elements, Fields, Text}
+use Rattle.syntax.specs.Grammar.{Byte, Ws, Word, letter, spelling, Quoted, Int, Spells, Elements, Fields, Text}
 use Rattle.syntax.specs.Grammar as g
 use Rattle.syntax.specs.Reading.{reading, alone, longest}
 use Rattle.syntax.specs.Laws.{Lawful, One-value}

@@ -1,9 +1,9 @@
 -- White space, strings, numbers and literals of the grammar, as reading goes through them.
 use mathlib.Core.Path.{_≡_, refl, sym, ap, subst, _∙_}
 use mathlib.Core.List.{List, [], _∷_, _++_}
-use mathlib.Core.Bool.{Bool, true, false, cond, _&&_, _||_}
-use mathlib.Core.Logic.{_⊎_, inl, inr, ⊎-elim}
-use Prim.Native.Nat.{ℕ, suc, _+_, _≤_, _<_}
+use mathlib.Core.Bool.{Bool, true, false, _&&_, _||_}
+use mathlib.Core.Logic.{_⊎_, ⊎-elim}
+use Prim.Native.Nat.{ℕ, _+_, _≤_, _<_}
 use native.Mathlib.Omega.{arith}
 use lib.ListN.{length, getD, drop}
 use lib.Dec.{eqb}
@@ -18,9 +18,9 @@ use Rattle.syntax.specs.declared.kinds.Letters.{Letters}
 use Rattle.syntax.specs.declared.kinds.Letters.the-variants.{Plain, Escape, Four, Three, Two, One}
 use Rattle.syntax.specs.declared.kinds.Literal.{Literal}
 use Rattle.syntax.specs.declared.kinds.Literal.the-variants.{Null, False, True}
-use Rattle.syntax.specs.Bytes.{white, digit, hex, escaped, unescaped, mark, sign, gap}
-use Rattle.syntax.specs.Value.{Value, number, literal}
-use Rattle.syntax.specs.Machine.{Rules, run, State, Mode, live, over, whole, step, step-live, step-chars, step-digits, step-first, step-after, finish, Frame, in-array, in-object, Role, as-value, as-name, value, first, name1, name, colon, chars, digits, after, word, spelled, deliver, closed, plain, next-letters, next-digits, ended}
+use Rattle.syntax.specs.Bytes.{white, digit, escaped, unescaped, mark, sign, gap}
+use Rattle.syntax.specs.Value.{number, literal}
+use Rattle.syntax.specs.Machine.{Rules, run, State, live, over, whole, step, step-live, step-chars, step-digits, Frame, Role, value, chars, digits, after, word, spelled, deliver, closed, plain, next-letters, next-digits, ended}
 use Rattle.syntax.specs.Steps.{Leads, Loose}
 use Rattle.syntax.specs.Grammar.{Byte, Ws, space, Word, done, letter, spelling, Quoted, Chars, char, escape, unicode, Int, zero, Frac, point, Exp, power, Number}
 use Rattle.syntax.specs.Grammar as g
