@@ -5,3 +5,5 @@ pub mod Table
 pub mod CompleteParts
 pub mod Complete
 pub mod Keeps
+pub mod SoundParts
+pub mod Sound
