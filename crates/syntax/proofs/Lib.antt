@@ -1,9 +1,13 @@
 pub mod Gaps
 pub mod Runs
 pub mod Allowed
-pub mod Table
 pub mod CompleteParts
 pub mod Complete
 pub mod Keeps
 pub mod SoundParts
 pub mod Sound
+pub mod Viable
+pub mod Breaks
+pub mod Only
+pub mod Tells
+pub mod Stands

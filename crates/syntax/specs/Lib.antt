@@ -6,3 +6,4 @@ pub mod Steps
 pub mod Reading
 pub mod Limits
 pub mod Laws
+pub mod Rows

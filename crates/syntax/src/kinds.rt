@@ -1,10 +1,22 @@
-// Why bytes are no text; `as u8` gives the number by which a cause is told.
+ghost use mathlib.Core.Path.{_≡_};
+ghost use Rattle.syntax.specs.Reading.{number};
+
+// Why bytes are no text.
 #[derive(Clone, Copy, Debug, PartialEq, Eq)]
 pub enum Cause {
     TooLong = 1,
     Malformed = 2,
     TooDeep = 3,
     RepeatedName = 4,
+}
+
+impl Cause {
+    // The number by which a cause is told.
+    pub fn number(self) -> u8
+        ensures { λ r. ⌜ r ≡ number self ⌝ }
+    {
+        self as u8
+    }
 }
 
 // A cause, and the byte place at which it stands.
