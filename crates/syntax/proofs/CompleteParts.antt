@@ -48,7 +48,7 @@ module _ {s : List ℕ} where
   ws-gap-end w = ws-gap w (λ h. absurd (omega arith)) (omega arith)
 
   -- where the parts end, within the bytes
-  chars-order : {i j : ℕ} → Chars s i j → i ≤ length s → (i ≤ j) × (j ≤ length s)
+  pub chars-order : {i j : ℕ} → Chars s i j → i ≤ length s → (i ≤ j) × (j ≤ length s)
   chars-order g.Chars.none l = (omega arith, l)
   chars-order (char x u c) l = let h = chars-order c (omega arith) in (omega arith, h .1)
   chars-order (escape x y e c) l = let h = chars-order c (omega arith) in (omega arith, h .1)

@@ -11,3 +11,6 @@ pub mod Breaks
 pub mod Only
 pub mod Tells
 pub mod Stands
+pub mod Chains
+pub mod Walks
+pub mod WalkTable

@@ -7,3 +7,4 @@ pub mod Reading
 pub mod Limits
 pub mod Laws
 pub mod Rows
+pub mod Walking

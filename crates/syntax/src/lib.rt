@@ -2,8 +2,17 @@
 mod kinds;
 
 pub use kinds::Cause;
+pub use kinds::CauseDebug;
+pub use kinds::CauseEq;
+pub use kinds::CausePartialEq;
 pub use kinds::Digits;
 pub use kinds::Fault;
+pub use kinds::FaultDebug;
+pub use kinds::FaultEq;
+pub use kinds::FaultPartialEq;
 pub use kinds::Kind;
+pub use kinds::KindDebug;
+pub use kinds::KindEq;
+pub use kinds::KindPartialEq;
 pub use kinds::Letters;
 pub use kinds::Literal;

@@ -1,0 +1,4 @@
+pub mod Rows
+pub mod Less
+pub mod Sorted
+pub mod Order

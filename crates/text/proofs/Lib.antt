@@ -1,0 +1,6 @@
+pub mod Scans
+pub mod Values
+pub mod Nests
+pub mod Wholes
+pub mod Checks
+pub mod Members
