@@ -2,7 +2,9 @@
 ghost use mathlib.Core.Path.{_≡_};
 ghost use Prim.Native.Nat.{_*_, _≤_};
 ghost use lib.ListN.{length};
+ghost use Rattle.syntax.specs.Laws.{Accepts, One-value, Tells};
 ghost use Rattle.syntax.specs.Reading.{reading, value-at};
+ghost use Rattle.syntax.specs.Rows.{Rows};
 ghost use Rattle.text.specs.Part.{part-read, part-at};
 use crate::faults::malformed;
 use crate::faults::too_long;
@@ -18,7 +20,11 @@ const UNUSED: Name = Name { start: 0, end: 0 };
 // Reads a text of at most 1,048,576 bytes, which is a value with nothing but white space around it. Brackets open at most sixteen deep,
 // and no object has a name twice. A row of names stands for four bytes, so that three sizes of table serve.
 pub fn read(text: &[u8]) -> Result<Part, Fault>
-    ensures { λ r. ⌜ r ≡ part-read (reading (now (text .entry))) ⌝ }
+    ensures is { λ r. ⌜ r ≡ part-read (reading (now (text .entry))) ⌝ }
+    ensures accepts { λ _. ⌜ Accepts ⌝ }
+    ensures one { λ _. ⌜ One-value ⌝ }
+    ensures tells { λ _. ⌜ Tells ⌝ }
+    ensures rows { λ _. ⌜ Rows ⌝ }
 {
     match text.len() {
         0..=4_096 => read_by::<1_024>(text),
