@@ -3,4 +3,5 @@ pub mod Values
 pub mod Nests
 pub mod Wholes
 pub mod Checks
+pub mod Items
 pub mod Members

@@ -1,6 +1,6 @@
 -- The members of an object, with their names left to compare.
 use mathlib.Core.Path.{_≡_, refl, sym, ap, subst, _∙_}
-use mathlib.Core.List.{List, [], _∷_}
+use mathlib.Core.List.{List, _∷_}
 use mathlib.Core.Bool.{Bool, true, false, cond, _&&_}
 use Prim.Native.Nat.{ℕ, _+_, _-_, _*_, _<_, _≤_}
 use native.Mathlib.Omega.{arith}
@@ -63,7 +63,8 @@ name-read b d s p i j names count ns h n e = subst (Named b d s p i j) (sym e) (
   up = ascending-noted b (take count names) i j (n .0) (h .up) (h .ends);
   ms = h .ms;
   knows = λ v. knows-more s i j (n .0) (omega (arith, n .1)) b (take count names) (h .ms) v (h .knows);
-  reads = λ k l. h .reads k l ∙ ap (checked s (take count names)) (n .3 (limits b) p (h .ms) k ∙ closes k) ∙ absorb s i j (n .0) (omega (arith, n .1)) b (take count names) (h .ms) _ (h .knows) })
+  reads = λ k l. h .reads k l ∙ ap (checked s (take count names)) (n .3 (limits b) p (h .ms) k ∙ closes k) ∙ absorb s i j (n .0) (omega (arith, n .1)) b (take count names) (h .ms) _ (h .knows);
+})
   where
     closes : (k : List Frame) → run (limits b) (drop j s) j (live (chars Plain (as-name p (h .ms)) i (between (i + 1) j s)) k) ≡ cond (b && has (between (i + 1) j s) (h .ms)) (fault (repeated j)) (run (limits b) (drop (j + 1) s) (j + 1) (live (colon p (h .ms) i (between (i + 1) j s)) k))
     closes k = at-byte (limits b) s j 34 _ (cond (b && has (between (i + 1) j s) (h .ms)) (over (fault (repeated j))) (live (colon p (h .ms) i (between (i + 1) j s)) k)) (n .1) (n .2) refl ∙ run-cond (limits b) (drop (j + 1) s) (j + 1) (b && has (between (i + 1) j s) (h .ms)) (fault (repeated j)) (live (colon p (h .ms) i (between (i + 1) j s)) k)
@@ -98,13 +99,32 @@ module _ (b : Bool) (d : ℕ) (s : List ℕ) (p i j : ℕ) (ns : List Name) (h :
 -- one member more
 pub next-name : (b : Bool) (d : ℕ) (s : List ℕ) (p i j : ℕ) (names : List Name) (count : ℕ) (h : Named b d s p i j (take count names)) (v : Value) (a : ℕ) → Goes b d s p (take count names) a (live (name p (more-members (h .ms) i (between (i + 1) j s) v))) → p < a → a ≤ length s → (a < length s → white (getD s a 0) ≡ false) → count ≤ length names → (b ≡ true → length s + 4 * count < a + 4 * length names) → i ≤ a → j < a → So-far b d s p a names count
 next-name b d s p i j names count h v a g l m w f r x y = record {
-  past = l; within = m; solid = w; few = f; room = r; ends = h .ends a x y; up = h .up;
-  ms = more-members (h .ms) i (between (i + 1) j s) v; knows = h .knows v; reads = g }
+  past = l;
+  within = m;
+  solid = w;
+  few = f;
+  room = r;
+  ends = h .ends a x y;
+  up = h .up;
+  ms = more-members (h .ms) i (between (i + 1) j s) v;
+  knows = h .knows v;
+  reads = g;
+}
 
 -- at the first name no rows are there yet
 pub no-names : (b : Bool) (d : ℕ) (s : List ℕ) (p i : ℕ) (names : List Name) (count : ℕ) → count ≡ 0 → p < i → i ≤ length s → (i < length s → white (getD s i 0) ≡ false) → (b ≡ true → length s < i + 4 * length names) → ((k : List Frame) → length k + d ≡ 16 → Leads (limits b) s p (live value k) i (live (name p end) k)) → So-far b d s p i names count
 no-names b d s p i names count e l m w r g = subst (So-far b d s p i names) (sym e) (record {
-  past = l; within = m; solid = w; few = omega arith; room = λ x. omega (arith, r x); ends = tt; up = tt; ms = end; knows = knows-none b s; reads = g })
+  past = l;
+  within = m;
+  solid = w;
+  few = omega arith;
+  room = λ x. omega (arith, r x);
+  ends = tt;
+  up = tt;
+  ms = end;
+  knows = knows-none b s;
+  reads = g;
+})
 
 pub no-members : (b : Bool) (d : ℕ) (s : List ℕ) (p i : ℕ) (names : List Name) (count : ℕ) → count ≡ 0 → p < i → i < length s → getD s i 0 ≡ 125 → ((k : List Frame) → length k + d ≡ 16 → Leads (limits b) s p (live value k) i (live (name1 p) k)) → Gathers b d s p (take count names) (Ok (record { kind = Object; start = p; end = i + 1 }))
 no-members b d s p i names count e l m q g = subst (λ n. Gathers b d s p (take n names) (Ok (record { kind = Object; start = p; end = i + 1 }))) (sym e)

@@ -1,14 +1,14 @@
 -- What stands around values: brackets, commas, names.
 use mathlib.Core.Path.{_≡_, refl, sym, _∙_}
-use mathlib.Core.List.{List, [], _∷_}
+use mathlib.Core.List.{List, _∷_}
 use mathlib.Core.Bool.{Bool, false}
-use Prim.Native.Nat.{ℕ, _+_, _≤_, _<_}
+use Prim.Native.Nat.{ℕ, _+_, _<_}
 use native.Mathlib.Omega.{arith}
 use lib.ListN.{length, getD}
 use Rattle.std.proofs.shelf.Tests.{cond-true, cond-false, ne-eqb, le-leb, lt-leb}
 use Rattle.syntax.specs.Bytes.{white}
 use Rattle.syntax.specs.Value.{Value, Items, Members, none, end}
-use Rattle.syntax.specs.Machine.{Rules, limits, State, Mode, Frame, in-array, in-object, live, over, fault, value, first, after, name1, name, opened, malformed, too-deep}
+use Rattle.syntax.specs.Machine.{Rules, limits, Mode, Frame, in-array, in-object, live, over, fault, value, first, after, name1, name, opened, malformed, too-deep}
 use Rattle.syntax.specs.Steps.{Leads, Fails}
 use Rattle.syntax.proofs.Runs.{alike}
 use Rattle.text.proofs.Scans.{stuck}

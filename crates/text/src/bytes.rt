@@ -65,7 +65,10 @@ pub fn next_digits(so_far: Digits, b: u8) -> Option<Digits>
 pub fn may_end(so_far: Digits) -> bool
     ensures { λ r. ⌜ r ≡ ended «so_far» ⌝ }
 {
-    matches!(so_far, Digits::Zero | Digits::Whole | Digits::Fraction | Digits::Power)
+    matches!(
+        so_far,
+        Digits::Zero | Digits::Whole | Digits::Fraction | Digits::Power
+    )
 }
 
 // Whether `b` closes a string that stands at `spot`.

@@ -1,6 +1,6 @@
 // A value, by recursion with the depth that is left.
 ghost use mathlib.Core.Path.{_≡_};
-ghost use mathlib.Core.Bool.{true, false};
+ghost use mathlib.Core.Bool.{false};
 ghost use Prim.Native.Nat.{_<_, _≤_};
 ghost use lib.ListN.{length, getD, take};
 ghost use Rattle.syntax.specs.Bytes.{white};
@@ -25,7 +25,13 @@ use syntax::Kind;
 
 // The value whose first byte has to stand at `at`, in which `depth` brackets may open one inside the other.
 // Where names are to be distinct, `names` has rows for all that can come.
-pub fn value_here(s: &[u8], at: usize, depth: usize, distinct: bool, names: &mut [Name]) -> Result<Part, Fault>
+pub fn value_here(
+    s: &[u8],
+    at: usize,
+    depth: usize,
+    distinct: bool,
+    names: &mut [Name],
+) -> Result<Part, Fault>
     requires solid { ⌜ (at < length (now s) → white (getD (now s) at 0) ≡ false) ⌝ }
     requires room { ⌜ Room distinct (now s) at (now names) ⌝ }
     ensures { λ r. ⌜ Reads (limits distinct) (live value-mode) depth (now (s .entry)) at r ⌝ }
@@ -41,7 +47,13 @@ pub fn value_here(s: &[u8], at: usize, depth: usize, distinct: bool, names: &mut
 }
 
 // The array whose bracket stands at `open`.
-fn array(s: &[u8], open: usize, depth: usize, distinct: bool, names: &mut [Name]) -> Result<Part, Fault>
+fn array(
+    s: &[u8],
+    open: usize,
+    depth: usize,
+    distinct: bool,
+    names: &mut [Name],
+) -> Result<Part, Fault>
     requires within { ⌜ «open» < length (now s) ⌝ }
     requires bracket { ⌜ getD (now s) «open» 0 ≡ 91 ⌝ }
     requires room { ⌜ Room distinct (now s) «open» (now names) ⌝ }
@@ -76,7 +88,13 @@ fn array(s: &[u8], open: usize, depth: usize, distinct: bool, names: &mut [Name]
 }
 
 // The object whose brace stands at `open`. A repeated name in it stands before whatever else is wrong with it.
-fn object(s: &[u8], open: usize, depth: usize, distinct: bool, names: &mut [Name]) -> Result<Part, Fault>
+fn object(
+    s: &[u8],
+    open: usize,
+    depth: usize,
+    distinct: bool,
+    names: &mut [Name],
+) -> Result<Part, Fault>
     requires within { ⌜ «open» < length (now s) ⌝ }
     requires brace { ⌜ getD (now s) «open» 0 ≡ 123 ⌝ }
     requires room { ⌜ Room distinct (now s) «open» (now names) ⌝ }
@@ -94,7 +112,14 @@ fn object(s: &[u8], open: usize, depth: usize, distinct: bool, names: &mut [Name
 }
 
 // The same, with the names of the object itself left uncompared in the first `count` rows.
-fn members(s: &[u8], open: usize, depth: usize, distinct: bool, names: &mut [Name], count: &mut usize) -> Result<Part, Fault>
+fn members(
+    s: &[u8],
+    open: usize,
+    depth: usize,
+    distinct: bool,
+    names: &mut [Name],
+    count: &mut usize,
+) -> Result<Part, Fault>
     requires within { ⌜ «open» < length (now s) ⌝ }
     requires brace { ⌜ getD (now s) «open» 0 ≡ 123 ⌝ }
     requires shallow { ⌜ 0 < depth ⌝ }

@@ -123,7 +123,7 @@ pub fn many_names(rt: &LibcRuntime) -> io::Result<()> {
     )?;
     show(
         rt,
-        "objects of forty names",
+        "objects of twenty names",
         &filled(
             heap,
             b"[{}",

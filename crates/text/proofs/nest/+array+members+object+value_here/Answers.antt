@@ -1,17 +1,16 @@
 use mathlib.Core.Path.{_≡_, refl, sym, ap, subst, _∙_}
-use mathlib.Core.List.{List, [], _∷_}
+use mathlib.Core.List.{List, _∷_}
 use Prim.Native.Nat.{ℕ, _+_, _-_, _<_, _≤_}
 use native.Mathlib.Omega.{arith}
-use lib.ListN.{length, getD, take}
+use lib.ListN.{length, take}
 use Rattle.std.proofs.shelf.Results.{err-from-errBy}
-use Rattle.std.specs.Holes.{between}
-use Rattle.syntax.specs.Value.{Value, array, object, none, end, more-items, more-members}
-use Rattle.syntax.specs.Machine.{limits, fault, live, Frame, in-array, value, first, after, name1, name, step-live}
+use Rattle.syntax.specs.Machine.{limits, fault, live, Frame, in-array, value, first, after, name1, step-live}
 use Rattle.syntax.specs.Steps.{Leads}
 use Rattle.syntax.proofs.Runs.{at-byte, fails, fails-end}
 use Rattle.text.specs.Rows.{checked}
 use Rattle.text.proofs.Scans.{over-gap}
-use Rattle.text.proofs.Nests.{first-item, first-name, item-out, member-out, opens, opens-not}
+use Rattle.text.proofs.Nests.{first-name, opens, opens-not}
+use Rattle.text.proofs.Items.{Comes-to, no-items, some-items, item-read, items-end, next-item, no-comma}
 use Rattle.std.specs.declared.option.Option.the-variants.{Some, None}
 use borrow.Rule.Slice.PartMut.{putMid, same-len-mid}
 use Rattle.std.proofs.shelf.Parts.{take-putMid-below}
@@ -27,7 +26,7 @@ array-returns-then-depth-eq0 t c = λ k n.
     ∙ ap fault (sym (c .too-deep .ensures))
 
 -- the bracket, and the white space behind it
-opened : (t : ℕ) (c : array-After-skip-i t) (k : List Frame) → length k + c .args .depth ≡ 16 → Leads (limits (c .args .distinct)) (c .args .s .now) (c .args .open) (live value k) (c .skip-i .result) (live (first (c .args .open)) k)
+opened : (t : ℕ) (c : array-After-skip-i t) → Comes-to (c .args .distinct) (c .args .depth) (c .args .s .now) (c .args .open) (c .skip-i .result) (live (first (c .args .open)))
 opened t c k n =
     let s = c .args .s .now in
     let p = c .args .open in
@@ -36,51 +35,34 @@ opened t c k n =
 
 pub array-returns-then-stands : need.array-returns-then-stands
 array-returns-then-stands t c =
-    let i = c .skip-i .result in
     let here = c .stands .ensures .taken (c .if-stands .taken) in
-    (omega arith, omega (arith, here .0), (array (c .args .open) (i + 1) none, refl, λ k n. opened t (need.at·array-returns-then-stands t c .After-skip-i) k n ∙ at-byte (limits (c .args .distinct)) (c .args .s .now) i 93 _ _ (here .0) (here .1) refl))
+    no-items (c .args .distinct) (c .args .depth) (c .args .s .now) (c .args .open) (c .skip-i .result) (omega arith) (opened t (need.at·array-returns-then-stands t c .After-skip-i)) (here .0) (here .1)
 
 pub array-items-holds : need.array-items-holds
 array-items-holds t c =
-    let s = c .args .s .now in
-    let i = c .skip-i .result in
-    (omega arith, c .skip-i .ensures .within (omega arith), c .skip-i .ensures .stops, (none, λ k n. opened t (need.at·array-items-holds t c .After-skip-i) k n ∙ first-item (limits (c .args .distinct)) s i k (c .skip-i .ensures .stops) (c .args .open) (c .stands .ensures .left (c .if-stands .left))))
+    some-items (c .args .distinct) (c .args .depth) (c .args .s .now) (c .args .open) (c .skip-i .result) (omega arith) (opened t (need.at·array-items-holds t c .After-skip-i))
+    (c .skip-i .ensures .within (omega arith)) (c .skip-i .ensures .stops) (c .stands .ensures .left (c .if-stands .left))
 
 -- the item and the white space behind it
-item : (t : ℕ) (c : array-After-skip-close t) → (v : Value) × ((k : List Frame) → length k + c .args .depth ≡ 16 → Leads (limits (c .args .distinct)) (c .args .s .now) (c .args .open) (live value k) (c .skip-close .result) (live (after v) (in-array (c .args .open) (c .items .inv .3 .0) ∷ k)))
-item t c =
-    let read = c .in-Continue-item .ensures tt in
-    let f = in-array (c .args .open) (c .items .inv .3 .0) in
-    (read .2 .0, λ k n.
-    c .items .inv .3 .1 k n ∙ read .2 .2 (f ∷ k) (omega (arith, c .if-depth-eq0 .left))
-    ∙ over-gap (limits (c .args .distinct)) (c .args .s .now) (c .in-Continue-item .item .end) (c .skip-close .result) (live (after (read .2 .0)) (f ∷ k)) tt (c .skip-close .ensures .is))
+item : (t : ℕ) (c : array-After-skip-close t) → Comes-to (c .args .distinct) (c .args .depth) (c .args .s .now) (c .args .open) (c .skip-close .result) (λ k. live (after (c .in-Continue-item .ensures tt .2 .0)) (in-array (c .args .open) (c .items .inv .vs) ∷ k))
+item t c = item-read (c .args .distinct) (c .args .depth) (c .args .s .now) (c .args .open) (c .items .i) (c .items .inv) (c .in-Continue-item .item) (c .skip-close .result) (omega (arith, c .if-depth-eq0 .left)) (c .in-Continue-item .ensures tt) (c .skip-close .ensures .is)
 
 pub array-returns-then-stands-2 : need.array-returns-then-stands-2
 array-returns-then-stands-2 t c =
-    let it = item t (need.at·array-returns-then-stands-2 t c .After-skip-close) in
-    let j = c .skip-close .result in
     let here = c .stands-in-items .ensures .taken (c .if-stands-2 .taken) in
-    (omega (arith, c .in-Continue-item .ensures tt .0, c .items .inv .0), omega (arith, here .0), (array (c .args .open) (j + 1) (more-items (c .items .inv .3 .0) (it .0)), refl, λ k n. it .1 k n ∙ at-byte (limits (c .args .distinct)) (c .args .s .now) j 93 _ _ (here .0) (here .1) refl))
+    items-end (c .args .distinct) (c .args .depth) (c .args .s .now) (c .args .open) (c .in-Continue-item .ensures tt .2 .0) (c .items .inv .vs) (c .skip-close .result) (item t (need.at·array-returns-then-stands-2 t c .After-skip-close))
+    (omega (arith, c .in-Continue-item .ensures tt .0, c .items .inv .past)) (here .0) (here .1)
 
 pub array-returns-then-not-stands : need.array-returns-then-not-stands
 array-returns-then-not-stands t c =
-    let it = item t (need.at·array-returns-then-not-stands t c .After-skip-close) in
-    λ k n.
-    it .1 k n
-    ∙ item-out (limits (c .args .distinct)) (c .args .s .now) (c .skip-close .result) k (c .skip-close .ensures .stops) (it .0) (c .args .open) (c .items .inv .3 .0) (c .stands-in-items .ensures .left (c .if-stands-2 .left)) (c .stands-in-items-2 .ensures .left (c .if-not-stands .taken))
-    ∙ ap fault (sym (c .malformed .ensures))
+    let out = no-comma (c .args .distinct) (c .args .depth) (c .args .s .now) (c .args .open) (c .in-Continue-item .ensures tt .2 .0) (c .items .inv .vs) (c .skip-close .result) (item t (need.at·array-returns-then-not-stands t c .After-skip-close)) (c .skip-close .ensures .stops) (c .stands-in-items .ensures .left (c .if-stands-2 .left)) (c .stands-in-items-2 .ensures .left (c .if-not-stands .taken)) in
+    λ k n. out k n ∙ ap fault (sym (c .malformed .ensures))
 
 pub array-items-again : need.array-items-again
 array-items-again t c =
-    let it = item t (need.at·array-items-again t c .After-skip-close) in
-    let j = c .skip-close .result in
-    let s = c .args .s .now in
-    let vs = more-items (c .items .inv .3 .0) (it .0) in
     let here = c .stands-in-items-2 .ensures .taken (c .if-not-stands .left) in
-    (omega (arith, c .in-Continue-item .ensures tt .0, c .items .inv .0), c .skip-i-in-items .ensures .within (omega (arith, here .0)), c .skip-i-in-items .ensures .stops, (vs, λ k n.
-    it .1 k n
-    ∙ at-byte (limits (c .args .distinct)) s j 44 _ _ (here .0) (here .1) refl
-    ∙ over-gap (limits (c .args .distinct)) s (j + 1) (c .skip-i-in-items .result) (live value (in-array (c .args .open) vs ∷ k)) tt (c .skip-i-in-items .ensures .is)))
+    next-item (c .args .distinct) (c .args .depth) (c .args .s .now) (c .args .open) (c .in-Continue-item .ensures tt .2 .0) (c .items .inv .vs) (c .skip-close .result) (item t (need.at·array-items-again t c .After-skip-close)) (c .skip-i-in-items .result) (here .0) (here .1) (c .skip-i-in-items .ensures .is)
+    (omega (arith, c .in-Continue-item .ensures tt .0, c .items .inv .past)) (c .skip-i-in-items .ensures .within (omega (arith, here .0))) (c .skip-i-in-items .ensures .stops)
 
 pub value-here-returns-then-at-s : need.value-here-returns-then-at-s
 value-here-returns-then-at-s t c = λ k n. fails-end (limits (c .args .distinct)) (c .args .s .now) (c .args .at) (live value k) _ (c .if-at-s .taken) refl ∙ ap fault (sym (c .malformed .ensures))
@@ -121,8 +103,10 @@ members-returns-then-stands t c =
     let names = c .args .names .now in
     let here = c .stands .ensures .taken (c .if-stands .taken) in
     record {
-      few = omega (arith, c .pre .none); up = subst (λ n. Ascending (take n names)) (sym (c .pre .none)) tt;
-      reads = no-members (c .args .distinct) (c .args .depth) (c .args .s .now) (c .args .open) (c .skip-i .result) names (c .args .count .now) (c .pre .none) (omega arith) (here .0) (here .1) (begun t (need.at·members-returns-then-stands t c .After-skip-i)) }
+      few = omega (arith, c .pre .none);
+      up = subst (λ n. Ascending (take n names)) (sym (c .pre .none)) tt;
+      reads = no-members (c .args .distinct) (c .args .depth) (c .args .s .now) (c .args .open) (c .skip-i .result) names (c .args .count .now) (c .pre .none) (omega arith) (here .0) (here .1) (begun t (need.at·members-returns-then-stands t c .After-skip-i));
+    }
 
 pub members-members-holds : need.members-members-holds
 members-members-holds t c =
@@ -189,9 +173,11 @@ members-returns-then-stands-2 t c =
     let at = need.at·members-returns-then-stands-2 t c .After-value-here in
     let here = c .stands-in-members .ensures .taken (c .if-stands-2 .taken) in
     record {
-      few = omega (arith, table-length t at); up = named t at .up;
+      few = omega (arith, table-length t at);
+      up = named t at .up;
       reads = closed (c .args .distinct) (c .args .depth) (c .args .s .now) (c .args .open) (c .members .i) (c .in-Continue-quote .quote) (rows t at) (named t at) (c .in-Continue-member .ensures tt .2 .0) (c .skip-close .result) (behind t (need.at·members-returns-then-stands-2 t c .After-skip-close))
-        (omega (arith, c .members .inv .past, further t (need.at·members-returns-then-stands-2 t c .After-skip-close) .0)) (here .0) (here .1) }
+          (omega (arith, c .members .inv .past, further t (need.at·members-returns-then-stands-2 t c .After-skip-close) .0)) (here .0) (here .1);
+    }
 
 pub members-returns-then-not-stands : need.members-returns-then-not-stands
 unfolding rows table

@@ -10,4 +10,6 @@ returns c =
     let free = c .pre .room (c .if-not-distinct .left) .0 in
     record {
       rows = take-more-set (c .args .names .now) (c .args .count) (record { start = c .args .start; end = c .args .end }) free ∙ ap (λ b. noted b (take (c .args .count) (c .args .names .now)) (c .args .start) (c .args .end)) (sym (c .if-not-distinct .left));
-      more = omega arith; within = omega (arith, free) }
+      more = omega arith;
+      within = omega (arith, free);
+    }

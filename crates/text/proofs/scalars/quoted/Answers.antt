@@ -23,5 +23,13 @@ returns c =
     let at = c .args .at in
     let j = c .in-Continue-quote .quote in
     let read = c .in-Continue-quote .ensures tt in
-    λ r d. (omega (arith, read .0), omega (arith, read .1), (string at (j + 1) (between (at + 1) j s), refl, λ k n.
-    at-byte r s at 34 (live value k) (live (chars Plain as-value at []) k) (c .pre .within) (c .pre .quote) refl ∙ read .3 r as-value at k ∙ at-byte r s j 34 _ _ (read .1) (read .2) refl))
+    λ r d. (
+      omega (arith, read .0),
+      omega (arith, read .1),
+      (
+        string at (j + 1) (between (at + 1) j s),
+        refl,
+        λ k n.
+            at-byte r s at 34 (live value k) (live (chars Plain as-value at []) k) (c .pre .within) (c .pre .quote) refl ∙ read .3 r as-value at k ∙ at-byte r s j 34 _ _ (read .1) (read .2) refl,
+      ),
+    )

@@ -39,7 +39,7 @@ returns-in-rest c =
     let not116 : b ≡ 116 → ⊥ = λ e. omega arith in
     let not102 : b ≡ 102 → ⊥ = λ e. omega arith in
     let out : (b < 48) ⊎ (57 < b) = elim (c .in-rest .came) [
-      in-rest·by·then-this-lt48 w ↦ inl (omega (arith, w))
-    | in-rest·by·else-this-lt48·else-this-lt58 w ↦ inr (omega (arith, w))
+      | in-rest·by·then-this-lt48 w ↦ inl (omega (arith, w))
+      | in-rest·by·else-this-lt48·else-this-lt58 w ↦ inr (omega (arith, w))
     ] in
     λ r d k n. fails r (c .args .s .now) (c .args .at) _ _ (c .pre .within) (no-first r k b _ (c .pre .solid) not34 (c .pre .bracket) (c .pre .brace) not45 out not110 not116 not102) ∙ ap fault (sym (c .malformed .ensures))

@@ -18,8 +18,8 @@ returns-then-not-may-end c =
     let i = c .loop-end .end in
     let g = c .loop-end .so-far in
     let stops : i < length s → next-digits g (getD s i 0) ≡ None = elim (c .loop-end-test .came) [
-      else-loop-end-test w ↦ λ h. absurd (omega (arith, w .loop-end-test .left))
-    | then-loop-end-test·in-rest w ↦ λ _. sym (w .next-digits .ensures) ∙ w .in-rest .is
+      | else-loop-end-test w ↦ λ h. absurd (omega (arith, w .loop-end-test .left))
+      | then-loop-end-test·in-rest w ↦ λ _. sym (w .next-digits .ensures) ∙ w .in-rest .is
     ] in
     λ r k. c .loop-end .inv .2 r k ∙ digits-out r s i (c .args .at) g k stops (sym (c .if-not-may-end .ensures tt)) ∙ ap fault (sym (c .malformed .ensures))
 
@@ -29,8 +29,10 @@ returns c =
     let i = c .loop-end .end in
     let g = c .loop-end .so-far in
     let stops : i < length s → next-digits g (getD s i 0) ≡ None = elim (c .loop-end-test .came) [
-      else-loop-end-test w ↦ λ h. absurd (omega (arith, w .loop-end-test .left))
-    | then-loop-end-test·in-rest w ↦ λ _. sym (w .next-digits .ensures) ∙ w .in-rest .is
-    ] in
-    (record { kind = refl; start = refl; past = c .loop-end .inv .0; within = c .loop-end .inv .1 }, λ r k.
-    c .loop-end .inv .2 r k ∙ digits-done r s i (c .args .at) g k stops (sym (c .if-not-may-end .ensures tt)))
+      | else-loop-end-test w ↦ λ h. absurd (omega (arith, w .loop-end-test .left))
+      | then-loop-end-test·in-rest w ↦ λ _. sym (w .next-digits .ensures) ∙ w .in-rest .is
+    ] in (
+      record { kind = refl; start = refl; past = c .loop-end .inv .0; within = c .loop-end .inv .1 },
+      λ r k.
+          c .loop-end .inv .2 r k ∙ digits-done r s i (c .args .at) g k stops (sym (c .if-not-may-end .ensures tt)),
+    )

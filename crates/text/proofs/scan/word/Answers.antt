@@ -19,6 +19,8 @@ loop-b-again c =
 
 pub returns : need.returns
 returns c =
-    let i = c .loop-b .end in
-    (record { kind = refl; start = refl; past = c .loop-b .inv .0; within = c .loop-b .inv .1 }, λ r w k.
-    c .loop-b .inv .2 r w k ∙ ap (λ l. run r (drop i (c .args .s .now)) i (spelled l w (c .args .at) k i)) (drop-all (c .loop-b .b-index) (c .args .rest .now) (c .loop-b-test .left)))
+    let i = c .loop-b .end in (
+      record { kind = refl; start = refl; past = c .loop-b .inv .0; within = c .loop-b .inv .1 },
+      λ r w k.
+          c .loop-b .inv .2 r w k ∙ ap (λ l. run r (drop i (c .args .s .now)) i (spelled l w (c .args .at) k i)) (drop-all (c .loop-b .b-index) (c .args .rest .now) (c .loop-b-test .left)),
+    )
