@@ -44,6 +44,7 @@ untold false f e = refl
 -- A value that breaks no limit is allowed by the limits,
 mutual
   unfolding breaks breaks-items breaks-members
+
   pub kept-allowed : (d : ℕ) (v : Value) → breaks d v ≡ [] → Allowed (limits true) d v
   kept-allowed d (literal i j w) e = tt
   kept-allowed d (number i j n) e = tt
@@ -65,6 +66,7 @@ mutual
 -- and the other way round.
 mutual
   unfolding breaks breaks-items breaks-members
+
   pub allowed-kept : (d : ℕ) (v : Value) → Allowed (limits true) d v → breaks d v ≡ []
   allowed-kept d (literal i j w) a = refl
   allowed-kept d (number i j n) a = refl
