@@ -1,17 +1,17 @@
 -- The order of bytes: its laws, and how a comparison goes on byte by byte.
 use mathlib.Core.Path.{_≡_, refl, sym, ap, subst, _∙_}
 use mathlib.Core.List.{List, [], _∷_}
-use mathlib.Core.Bool.{Bool, true, false, _&&_, _||_}
+use mathlib.Core.Bool.{true, false, _&&_, _||_}
 use mathlib.Core.Logic.{_⊎_, inl, inr, ⊎-elim}
 use Prim.Native.Nat.{ℕ, _+_, _≤_, _<_}
 use native.Mathlib.Omega.{arith}
-use lib.Dec.{eqb, ltb}
+use lib.Dec.{eqb}
 use lib.ListN.{length, getD, drop}
-use Rattle.std.proofs.shelf.Tests.{lt-ltb, le-ltb, ltb-true, eq-eqb, eqb-true, and-from, and-parts, or-left, or-right, or-cases, or-from, and-left, cases-bool, cases-order, both-ways}
+use Rattle.std.proofs.shelf.Tests.{lt-ltb, le-ltb, ltb-true, eq-eqb, eqb-true, and-from, and-parts, or-left, or-cases, cases-bool, cases-order, both-ways}
 use Rattle.std.proofs.shelf.Lists.{drop-more, drop-all}
 use Rattle.syntax.specs.Bytes.{same}
 use Rattle.names.specs.Sorting.{less}
-use Rattle.names.proofs.Rows.{same-refl, same-eq, same-more, same-ends}
+use Rattle.names.proofs.Rows.{same-eq, same-more}
 
 module _ (x y : ℕ) (xs ys : List ℕ) where
   pub less-head : x < y → less (x ∷ xs) (y ∷ ys) ≡ true

@@ -1,16 +1,16 @@
 -- Of names that stand one behind the other, the first repeat is found from left to right.
-use mathlib.Core.Path.{_≡_, refl, sym, ap, subst, _∙_}
+use mathlib.Core.Path.{_≡_, refl, sym, ap, subst}
 use mathlib.Core.List.{List, [], _∷_, _++_, append-assoc}
-use mathlib.Core.Bool.{Bool, true, false, cond, _||_}
-use mathlib.Core.Logic.{_⊎_, inl, inr, ⊎-elim}
-use Prim.Native.Nat.{ℕ, _≤_, _<_}
+use mathlib.Core.Bool.{true, false}
+use mathlib.Core.Logic.{⊎-elim}
+use Prim.Native.Nat.{ℕ, _<_}
 use native.Mathlib.Omega.{arith}
 use Rattle.std.specs.shelf.Lists.{All, Has}
 use Rattle.std.specs.declared.option.Option.{Option}
 use Rattle.std.specs.declared.option.Option.the-variants.{Some, None}
 use Rattle.std.proofs.shelf.Tests.{cond-true, cond-false, cases-bool, or-cases, or-left, or-right, both-ways}
 use Rattle.std.proofs.shelf.Lists.{append-nil}
-use Rattle.std.proofs.shelf.Elements.{all-has, all-push, all-append, all-weaker, has-append-left, has-append-right, has-push, has-push-cases}
+use Rattle.std.proofs.shelf.Elements.{all-has, all-push, has-append-left, has-append-right, has-push-cases}
 use Rattle.syntax.specs.Bytes.{same}
 use Rattle.names.specs.declared.name.Name.{Name}
 use Rattle.names.specs.Repeats.{bytes-of, Earlier, Repeats, Least, First-repeat, known, earliest, Behind, Ascending}

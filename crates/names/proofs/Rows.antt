@@ -1,20 +1,20 @@
 -- Laws of rows: their bytes, the least of some numbers, where names stand in a list.
 use mathlib.Core.Path.{_≡_, refl, sym, ap, subst, _∙_}
-use mathlib.Core.List.{List, [], _∷_, _++_, append-assoc}
-use mathlib.Core.Bool.{Bool, true, false, cond, _&&_, _||_}
+use mathlib.Core.List.{List, [], _∷_, _++_}
+use mathlib.Core.Bool.{true, false, _&&_}
 use mathlib.Core.Logic.{_⊎_, inl, inr, ⊎-elim}
-use Prim.Native.Nat.{ℕ, zero, suc, _+_, _-_, _≤_, _<_}
+use Prim.Native.Nat.{ℕ, zero, suc, _+_, _≤_, _<_}
 use native.Mathlib.Omega.{arith}
-use lib.Dec.{leb, ltb, eqb}
+use lib.Dec.{eqb}
 use lib.ListN.{length, getD, drop}
 use Rattle.std.specs.Holes.{between}
-use Rattle.std.specs.shelf.Lists.{All, Has}
+use Rattle.std.specs.shelf.Lists.{Has}
 use Rattle.std.specs.declared.option.Option.{Option}
 use Rattle.std.specs.declared.option.Option.the-variants.{Some, None}
-use Rattle.std.proofs.shelf.Tests.{le-leb, lt-ltb, lt-leb, le-ltb, and-from, and-left, and-right, cond-true, cond-false, cases-lt, cases-bool, cases-order, eq-eqb, eqb-true, and-parts, and-cases, ltb-true, ltb-false, eqb-false}
+use Rattle.std.proofs.shelf.Tests.{le-leb, lt-ltb, lt-leb, le-ltb, and-from, and-left, and-right, cond-true, cond-false, cases-lt, cases-bool, eq-eqb, eqb-true, and-parts}
 use Rattle.std.proofs.shelf.Elements.{all-has, all-has-itself, all-append, all-weaker, has-getD}
 use Rattle.std.proofs.shelf.Lists.{drop-more, drop-all}
-use Rattle.syntax.specs.Bytes.{same, equal}
+use Rattle.syntax.specs.Bytes.{same}
 use Rattle.names.specs.declared.name.Name.{Name}
 use Rattle.names.specs.Repeats.{bytes-of, Earlier, Repeats, Least, First-repeat, lesser}
 

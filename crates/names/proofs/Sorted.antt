@@ -1,22 +1,21 @@
 -- Rows that lie in order by their bytes and starts.
-use mathlib.Core.Path.{_≡_, refl, sym, ap, subst, _∙_}
+use mathlib.Core.Path.{_≡_, sym, ap, subst, _∙_}
 use mathlib.Core.List.{List}
-use mathlib.Core.Bool.{Bool, true, false, _&&_, _||_}
+use mathlib.Core.Bool.{true, false, _&&_, _||_}
 use mathlib.Core.Logic.{_⊎_, inl, inr, ⊎-elim}
 use Prim.Native.Nat.{ℕ, zero, suc, _+_, _-_, _≤_, _<_}
 use native.Mathlib.Omega.{arith}
 use lib.Dec.{ltb}
 use lib.ListN.{length}
-use borrow.Author.Count.{below-more}
 use Rattle.std.specs.Slices.{Shuffled}
 use Rattle.std.specs.declared.option.Option.{Option}
-use Rattle.std.specs.declared.option.Option.the-variants.{Some, None}
+use Rattle.std.specs.declared.option.Option.the-variants.{None}
 use Rattle.std.proofs.shelf.Tests.{both-ways, cases-bool, cases-lt, cases-order}
 use Rattle.std.proofs.shelf.Elements.{has-getD}
 use Rattle.std.proofs.shelf.Sorted.{has-shuffled, shuffled-sym}
 use Rattle.syntax.specs.Bytes.{same}
 use Rattle.names.specs.declared.name.Name.{Name}
-use Rattle.names.specs.Repeats.{bytes-of, Earlier, Repeats, Least, First-repeat, lesser}
+use Rattle.names.specs.Repeats.{bytes-of, Repeats, Least, First-repeat, lesser}
 use Rattle.names.specs.Sorting.{less, before}
 use Rattle.names.proofs.Rows.{at, Again, earlier-at, same-eq, same-sym, least-more, least-like}
 use Rattle.names.proofs.Less.{less-irrefl, less-trans, less-one-way, less-not-same}

@@ -1,4 +1,3 @@
-use lib.ListN.{take}
 use Rattle.names.specs.Repeats.{Least}
 use Rattle.names.proofs.Rows.{Among}
 use Rattle.names.proofs.pairwise.Given as given

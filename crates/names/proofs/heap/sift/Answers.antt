@@ -1,4 +1,4 @@
-use mathlib.Core.Logic.{inl, inr}
+use mathlib.Core.Logic.{inr}
 use native.Mathlib.Omega.{arith}
 use Rattle.std.proofs.shelf.Sorted.{shuffled-trans}
 use Rattle.names.proofs.heap.sift.Needs as need

@@ -1,0 +1,12 @@
+pub mod Verdicts
+pub mod Numbers
+pub mod Versions
+pub mod Fits
+pub mod Follows
+pub mod Accepts
+pub mod Changes
+pub mod Finds
+pub mod Bare
+pub mod Widens
+pub mod Worked
+pub mod Stands

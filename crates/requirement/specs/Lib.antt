@@ -1,0 +1,10 @@
+pub mod Faults
+pub mod Words
+pub mod Clause
+pub mod Check
+pub mod Reading
+pub mod Rules
+pub mod Law
+pub mod More
+pub mod Examples
+pub mod Laws
