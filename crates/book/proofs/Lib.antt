@@ -1,0 +1,5 @@
+pub mod Books
+pub mod Following
+pub mod Tabling
+pub mod Examining
+pub mod Opening

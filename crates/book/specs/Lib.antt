@@ -1,0 +1,4 @@
+pub mod Refusals
+pub mod Listing
+pub mod Laws
+pub mod Rows
