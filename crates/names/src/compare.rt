@@ -5,7 +5,7 @@ ghost use Prim.Native.Nat.{_+_, _≤_};
 ghost use Rattle.names.specs.Repeats.{bytes-of};
 ghost use Rattle.names.specs.Sorting.{before, less};
 ghost use Rattle.std.specs.Orderings.{Ranked};
-ghost use Rattle.syntax.specs.Bytes.{same};
+ghost use Rattle.syntax.specs.Bytes.{same as same-bytes};
 ghost use lib.ListN.{length};
 ghost use mathlib.Core.Bool.{true};
 ghost use mathlib.Core.Path.{_≡_};
@@ -21,8 +21,9 @@ pub fn bytes(text: &[u8], name: Name) -> &[u8]
     }
 }
 
-pub fn equal(a: &[u8], b: &[u8]) -> bool
-    ensures { λ r. ⌜ r ≡ same (now (a .entry)) (now (b .entry)) ⌝ }
+// Whether two names or strings say the same, by the bytes between their quotes. Every comparison of names and strings goes through it.
+pub fn same(a: &[u8], b: &[u8]) -> bool
+    ensures { λ r. ⌜ r ≡ same-bytes (now (a .entry)) (now (b .entry)) ⌝ }
 {
     if a.len() != b.len() {
         return false;
@@ -37,7 +38,7 @@ pub fn equal(a: &[u8], b: &[u8]) -> bool
 
 // Byte by byte; a list that begins another comes before it.
 pub fn order(a: &[u8], b: &[u8]) -> Ordering
-    ensures { λ r. ⌜ Ranked r (less (now (a .entry)) (now (b .entry)) ≡ true) (same (now (a .entry)) (now (b .entry)) ≡ true) (less (now (b .entry)) (now (a .entry)) ≡ true) ⌝ }
+    ensures { λ r. ⌜ Ranked r (less (now (a .entry)) (now (b .entry)) ≡ true) (same-bytes (now (a .entry)) (now (b .entry)) ≡ true) (less (now (b .entry)) (now (a .entry)) ≡ true) ⌝ }
 {
     for i in 0..a.len().min(b.len()) {
         if a[i] < b[i] {

@@ -4,8 +4,8 @@ mod heap;
 mod name;
 
 use compare::bytes;
-use compare::equal;
 use compare::order;
+pub use compare::same;
 use heap::sort;
 pub use name::Name;
 use std::cmp::Ordering;
@@ -24,7 +24,7 @@ fn repeated(text: &[u8], names: &[Name], name: Name) -> bool
 {
     let own = bytes(text, name);
     for row in names {
-        if row.start < name.start && equal(bytes(text, *row), own) {
+        if row.start < name.start && same(bytes(text, *row), own) {
             return true;
         }
     }

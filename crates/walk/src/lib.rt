@@ -3,7 +3,6 @@ ghost use mathlib.Core.Path.{_≡_};
 ghost use Prim.Native.Nat.{_<_, _^_};
 ghost use Rattle.std.specs.Holes.{between};
 ghost use Rattle.std.specs.Options.{mapped, Cases as BySome};
-ghost use Rattle.syntax.specs.Bytes.{same as same-bytes};
 ghost use Rattle.syntax.specs.Walking.{Walks, after-comma, item-at, member-at, members-from, byte-is, find as find-in, natural as natural-of, whole as whole-of};
 ghost use Rattle.text.specs.Part.{part-of};
 ghost use Rattle.walk.specs.Told.{item-told, member-told, letters-of, digits-of, Says, Writes};
@@ -12,6 +11,7 @@ mod found;
 
 pub use found::Item;
 pub use found::Member;
+pub use names::same;
 use syntax::Kind;
 pub use text::Part;
 use text::skip;
@@ -113,13 +113,6 @@ pub fn digits(text: &[u8], part: Part) -> &[u8]
     ensures writes { λ r. ⌜ Writes (now (text .entry)) part (now r) ⌝ }
 {
     cut(text, part.start, part.end)
-}
-
-// Whether two names, or two strings, say the same.
-pub fn same(a: &[u8], b: &[u8]) -> bool
-    ensures { λ r. ⌜ r ≡ same-bytes (now (a .entry)) (now (b .entry)) ⌝ }
-{
-    a == b
 }
 
 // The number that one to eighteen digits write.

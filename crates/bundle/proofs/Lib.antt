@@ -1,0 +1,12 @@
+pub mod Parts
+pub mod Known
+pub mod Steps
+pub mod Front
+pub mod Sound
+pub mod Opened
+pub mod Numbers
+pub mod Writing
+pub mod Back
+pub mod Refused
+pub mod Aside
+pub mod Again
