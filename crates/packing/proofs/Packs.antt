@@ -56,10 +56,10 @@ opens-packed ps out n w e =
     let v = written ps in
     ⊎-elim (λ l. refused (ap answer-of (packed-long ps out l)) e)
     (λ s. ⊎-elim (λ l. refused (ap answer-of (packed-short ps out s l)) e)
-      (λ r.
-        let p = packed-fits ps out s r in
-        let front : take n (packed ps out .1) ≡ v =
-            ap (λ (u : List ℕ). take n u) (ap buffer-of p) ∙ take-at v (drop (length v) out) n (ok-same (ap answer-of p) e) in
-        ap opened front ∙ opens-again ps w s)
-      (cases-lt (length out) (length v)))
+    (λ r.
+    let p = packed-fits ps out s r in
+    let front : take n (packed ps out .1) ≡ v =
+    ap (λ (u : List ℕ). take n u) (ap buffer-of p) ∙ take-at v (drop (length v) out) n (ok-same (ap answer-of p) e) in
+    ap opened front ∙ opens-again ps w s)
+    (cases-lt (length out) (length v)))
     (cases-lt 16777216 (length v))

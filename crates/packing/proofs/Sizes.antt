@@ -37,10 +37,12 @@ joined-append (q ∷ ps) qs = ap (λ (v : List ℕ). record-of q ++ v) (joined-a
 -- no front of the records is longer than all of them
 records-within : (ps : List Pair) (n : ℕ) → length (records ps n) ≤ length (joined record-of ps)
 records-within ps n =
-    omega (arith,
+    omega (
+      arith,
       ap (λ (v : List Pair). length (joined record-of v)) (take-append-drop n ps),
       ap length (joined-append (take n ps) (drop n ps)),
-      length-append (records ps n) (joined record-of (drop n ps)))
+      length-append (records ps n) (joined record-of (drop n ps)),
+    )
 
 -- what record number n adds
 pub size-more : (ps : List Pair) (n : ℕ) → n < length ps → length (records ps (n + 1)) ≡ length (records ps n) + (5 + length (path-at ps n) + length (body-at ps n))

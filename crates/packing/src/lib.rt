@@ -9,7 +9,8 @@ use store::Store;
 
 mod writing;
 
-use writing::{write_front, write_record};
+use writing::write_front;
+use writing::write_record;
 
 #[derive(Clone, Copy, Debug, PartialEq, Eq)]
 pub enum PackRefusal {

@@ -36,9 +36,9 @@ returns g c =
     let e = packed-fits ps out (omega arith) (omega arith) in
     let room : 0 ≤ length out = omega arith in
     let front : c .write-front .last .out ≡ over out 0 (head ++ in-two (length ps)) =
-        c .write-front .ensures ∙ ap (λ (n : ℕ). over out 0 (head ++ in-two n)) (c .count .ensures) in
+    c .write-front .ensures ∙ ap (λ (n : ℕ). over out 0 (head ++ in-two n)) (c .count .ensures) in
     let all : c .write-records .last .out ≡ over out 0 (written ps) =
-        then-over out _ _ 0 7 (head ++ in-two (length ps)) (joined record-of ps) room front (omega arith) (c .write-records .ensures) in
+    then-over out _ _ 0 7 (head ++ in-two (length ps)) (joined record-of ps) room front (omega arith) (c .write-records .ensures) in
     record {
       answer = ap Ok (c .size-total .ensures) ∙ sym (ap answer-of e);
       buffer = all ∙ over-front out (written ps) ∙ sym (ap buffer-of e);

@@ -13,10 +13,11 @@ bounds g c =
     let ps = g .S·Store .pairs (c .args .store .now) in
     let w = g .S·Store .lawful (c .args .store .now) in
     let n = c .loop-n .n in
-    let in′ : n < length ps = omega arith in
-    ( omega (arith, ap length (c .path .ensures), lawful-short ps w n in′)
-    , omega (arith, ap length (c .body .ensures), w .small n)
-    , omega (arith, w .few) )
+    let in′ : n < length ps = omega arith in (
+      omega (arith, ap length (c .path .ensures), lawful-short ps w n in′),
+      omega (arith, ap length (c .body .ensures), w .small n),
+      omega (arith, w .few),
+    )
 
 pub add-total-in-loop-n : need.add-total-in-loop-n
 add-total-in-loop-n g c = let b = bounds g c in omega arith
@@ -29,9 +30,10 @@ loop-n-again g c =
     let ps = g .S·Store .pairs (c .args .store .now) in
     let n = c .loop-n .n in
     let b = bounds g c in
-    let in′ : n < length ps = omega arith in
-    ( omega (arith, ap length (c .path .ensures), ap length (c .body .ensures), size-more ps n in′)
-    , omega arith )
+    let in′ : n < length ps = omega arith in (
+      omega (arith, ap length (c .path .ensures), ap length (c .body .ensures), size-more ps n in′),
+      omega arith,
+    )
 
 pub returns : need.returns
 returns g c =

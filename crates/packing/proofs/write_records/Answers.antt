@@ -34,12 +34,13 @@ loop-n-again g c =
     let in′ : n < length ps = omega arith in
     let room : 7 ≤ length out = omega (arith, length-written ps) in
     let wrote : c .write-record-place .last .out ≡ over (c .loop-n .out) (c .loop-n .place) (record-of (getD ps n nothing)) =
-        c .write-record-place .ensures .wrote
-        ∙ ap (λ (v : List ℕ). over (c .loop-n .out) (c .loop-n .place) (record-of (pair v (c .body .result .now)))) (c .path .ensures)
-        ∙ ap (λ (v : List ℕ). over (c .loop-n .out) (c .loop-n .place) (record-of (pair (path-at ps n) v))) (c .body .ensures) in
-    ( omega (arith, ap length (c .path .ensures), ap length (c .body .ensures), size-more ps n in′)
-    , then-over out _ _ 7 _ (records ps n) (record-of (getD ps n nothing)) room (c .loop-n .inv .1) (c .loop-n .inv .0) wrote
-      ∙ ap (over out 7) (sym (records-more ps n in′)) )
+    c .write-record-place .ensures .wrote
+    ∙ ap (λ (v : List ℕ). over (c .loop-n .out) (c .loop-n .place) (record-of (pair v (c .body .result .now)))) (c .path .ensures)
+    ∙ ap (λ (v : List ℕ). over (c .loop-n .out) (c .loop-n .place) (record-of (pair (path-at ps n) v))) (c .body .ensures) in (
+      omega (arith, ap length (c .path .ensures), ap length (c .body .ensures), size-more ps n in′),
+      then-over out _ _ 7 _ (records ps n) (record-of (getD ps n nothing)) room (c .loop-n .inv .1) (c .loop-n .inv .0) wrote
+          ∙ ap (over out 7) (sym (records-more ps n in′)),
+    )
 
 pub returns : need.returns
 returns g c =

@@ -14,4 +14,4 @@ returns c =
     let out = c .args .out .now in
     let room : 0 ≤ length out = omega arith in
     then-over out _ _ 0 _ head (in-two (c .args .count)) room (c .put-place .ensures .wrote) (c .put-place .ensures .end)
-      (c .put .ensures .wrote ∙ ap (λ (v : List ℕ). over (c .put-place .last .out) (c .put-place .result) v) (c .two-bytes .ensures))
+    (c .put .ensures .wrote ∙ ap (λ (v : List ℕ). over (c .put-place .last .out) (c .put-place .result) v) (c .two-bytes .ensures))

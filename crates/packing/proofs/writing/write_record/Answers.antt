@@ -25,10 +25,10 @@ returns c =
     let four : length (c .four-bytes .result) ≡ 4 = ap length (c .four-bytes .ensures) in
     let two = then-over out _ _ p _ (length path ∷ []) path room (c .put-place .ensures .wrote) (c .put-place .ensures .end) (c .put-place-2 .ensures .wrote) in
     let three =
-        then-over out _ _ p _ (length path ∷ path) size room two (omega arith)
-          (c .put-place-3 .ensures .wrote ∙ ap (λ (v : List ℕ). over (c .put-place-2 .last .out) (c .put-place-2 .result) v) (c .four-bytes .ensures)) in
+    then-over out _ _ p _ (length path ∷ path) size room two (omega arith)
+    (c .put-place-3 .ensures .wrote ∙ ap (λ (v : List ℕ). over (c .put-place-2 .last .out) (c .put-place-2 .result) v) (c .four-bytes .ensures)) in
     let all =
-        then-over out _ _ p _ ((length path ∷ path) ++ size) body room three (omega (arith, length-append path size)) (c .put .ensures .wrote) in
+    then-over out _ _ p _ ((length path ∷ path) ++ size) body room three (omega (arith, length-append path size)) (c .put .ensures .wrote) in
     record {
       wrote = all ∙ ap (over out p) (parts path body);
       end = omega (arith, four);
