@@ -3,6 +3,10 @@ mod fault;
 mod words;
 
 pub use fault::ProfileFault;
+pub use fault::ProfileFaultDebug;
+pub use fault::ProfileFaultEq;
+pub use fault::ProfileFaultFromText;
+pub use fault::ProfileFaultPartialEq;
 pub use words::CommonMember;
 pub use words::ConditionMember;
 pub use words::EntryMember;

@@ -18,7 +18,9 @@ fn number(line: &[u8], at: usize) -> (usize, usize) {
         if *b < b'0' || *b > b'9' {
             break;
         }
-        value = value.saturating_mul(10).saturating_add((*b - b'0') as usize);
+        value = value
+            .saturating_mul(10)
+            .saturating_add((*b - b'0') as usize);
     }
     (value, next)
 }

@@ -14,6 +14,7 @@ enum Reader {
     Text,
     Bundle,
     Book,
+    Profile,
 }
 
 // A verdict: the number of the refusal (of a text: of the cause), the number of a text's cause inside it, and the place; of what is accepted 0,
@@ -50,11 +51,19 @@ pub fn of_text(bytes: &[u8]) -> Verdict {
     }
 }
 
+fn of_profile(bytes: &[u8]) -> Verdict {
+    match profile::read(bytes) {
+        Ok(clauses) => Verdict::accepted(clauses),
+        Err(fault) => Verdict::refused(fault.number(), fault.cause(), fault.place()),
+    }
+}
+
 fn judge(reader: Reader, bytes: &[u8]) -> Verdict {
     match reader {
         Reader::Text => of_text(bytes),
         Reader::Bundle => stores::of_bundle(bytes),
         Reader::Book => stores::of_book(bytes),
+        Reader::Profile => of_profile(bytes),
     }
 }
 
@@ -87,6 +96,7 @@ fn main(rt: LibcRuntime) -> io::Result<()> {
     run(&rt, "texts.txt", Reader::Text)?;
     run(&rt, "bundles.txt", Reader::Bundle)?;
     run(&rt, "books.txt", Reader::Book)?;
+    run(&rt, "profiles.txt", Reader::Profile)?;
     large::long_texts(&rt)?;
     large::many_names(&rt)?;
     stores::limits(&rt)

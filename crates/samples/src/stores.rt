@@ -75,15 +75,51 @@ pub fn limits(rt: &LibcRuntime) -> io::Result<()> {
     let heap = rt.alloc();
     show(rt, "1,024 records", of_bundle(&bundle_of(heap, 1_024, 0)?))?;
     show(rt, "1,025 records", of_bundle(&bundle_of(heap, 1_025, 0)?))?;
-    show(rt, "a body of 1,048,576 bytes", of_bundle(&bundle_of(heap, 1, 1_048_576)?))?;
-    show(rt, "a body of 1,048,577 bytes", of_bundle(&bundle_of(heap, 1, 1_048_577)?))?;
-    show(rt, "16 such bodies: too long", of_bundle(&bundle_of(heap, 16, 1_048_576)?))?;
-    show(rt, "16,777,217 bytes", of_bundle(&filled(heap, 16_777_217)?))?;
-    show(rt, "1,024 members", of_book(&book_of(heap, 1_024, b"/last")?))?;
-    show(rt, "1,025 members", of_book(&book_of(heap, 1_025, b"/last")?))?;
-    show(rt, "1,024 members, the last unlawful", of_book(&book_of(heap, 1_024, b"last")?))?;
-    show(rt, "1,025 members, the last unlawful", of_book(&book_of(heap, 1_025, b"last")?))?;
-    show(rt, "1,024 members, the last again", of_book(&book_of(heap, 1_024, b"/pbaa")?))
+    show(
+        rt,
+        "a body of 1,048,576 bytes",
+        of_bundle(&bundle_of(heap, 1, 1_048_576)?),
+    )?;
+    show(
+        rt,
+        "a body of 1,048,577 bytes",
+        of_bundle(&bundle_of(heap, 1, 1_048_577)?),
+    )?;
+    show(
+        rt,
+        "16 such bodies: too long",
+        of_bundle(&bundle_of(heap, 16, 1_048_576)?),
+    )?;
+    show(
+        rt,
+        "16,777,217 bytes",
+        of_bundle(&filled(heap, 16_777_217)?),
+    )?;
+    show(
+        rt,
+        "1,024 members",
+        of_book(&book_of(heap, 1_024, b"/last")?),
+    )?;
+    show(
+        rt,
+        "1,025 members",
+        of_book(&book_of(heap, 1_025, b"/last")?),
+    )?;
+    show(
+        rt,
+        "1,024 members, the last unlawful",
+        of_book(&book_of(heap, 1_024, b"last")?),
+    )?;
+    show(
+        rt,
+        "1,025 members, the last unlawful",
+        of_book(&book_of(heap, 1_025, b"last")?),
+    )?;
+    show(
+        rt,
+        "1,024 members, the last again",
+        of_book(&book_of(heap, 1_024, b"/pbaa")?),
+    )
 }
 
 fn filled(heap: Global, length: usize) -> Result<Vec<u8>, AllocError> {

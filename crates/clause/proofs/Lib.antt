@@ -1,0 +1,4 @@
+pub mod Compared
+pub mod Takes
+pub mod Starts
+pub mod Numbered

@@ -1,0 +1,13 @@
+use mathlib.Core.Path.{_≡_}
+use lib.ListN.{length}
+use Rattle.syntax.specs.Walking.{rest-members}
+use Rattle.requirement.specs.Clause.{flat, schema-clauses}
+use Rattle.profile.specs.Counting.{spend}
+use Rattle.profile.proofs.counting.spend_schemas.Given as given
+
+-- what is left is spent on those to come
+abbrev pub Inv-loop-m : given.InvT-loop-m
+Inv-loop-m l = spend (length (flat schema-clauses (rest-members (l .text) (l .next)))) (l .left) ≡ spend (length (flat schema-clauses (rest-members (l .text) (l .entry .next)))) (l .entry .left)
+
+abbrev pub μ-loop-m : given.MeasureT-loop-m
+μ-loop-m l = length (rest-members (l .text) (l .next))
