@@ -2,6 +2,8 @@
 // files, reads every profile, and says how many profiles, clauses and captures there are, or prints the line of the first refusal.
 use book::BookStore;
 use bundle::BundleStore;
+use refusal::InspectionFault;
+use refusal::InspectionFaultFromProfile;
 use std::io;
 use store::Store;
 
@@ -28,12 +30,6 @@ struct Counts {
 
 const TOO_LONG: Refused = Refused {
     number: 1,
-    cause: 0,
-    place: 0,
-};
-
-const TOO_MANY: Refused = Refused {
-    number: 12,
     cause: 0,
     place: 0,
 };
@@ -66,31 +62,35 @@ fn check_captures(captures: &[u8]) -> Result<(), Refused> {
     }
 }
 
-// How many clauses the profiles of a library have.
-fn count_clauses(library: &[u8]) -> Result<usize, Refused> {
+// How many clauses the profiles of a library have; the first that is refused, or is one too many, is told.
+fn count_clauses(library: &[u8]) -> Result<usize, InspectionFault> {
     let profiles = book::open(library);
     let mut clauses = 0usize;
     for n in 0..profiles.count() {
         if n >= MOST {
-            return Err(TOO_MANY);
+            return Err(InspectionFault::TooManyPicks);
         }
-        match profile::read(profiles.body(n)) {
-            Ok(count) => clauses = clauses.saturating_add(count),
-            Err(fault) => return Err(Refused {
-                number: fault.number(),
-                cause: fault.cause(),
-                place: fault.place(),
-            }),
-        }
+        clauses = clauses.saturating_add(profile::read(profiles.body(n))?);
     }
     Ok(clauses)
+}
+
+fn read_profiles(library: &[u8]) -> Result<usize, Refused> {
+    match count_clauses(library) {
+        Ok(clauses) => Ok(clauses),
+        Err(fault) => Err(Refused {
+            number: fault.number(),
+            cause: fault.cause(),
+            place: fault.place(),
+        }),
+    }
 }
 
 fn inspect(library: &[u8], captures: &[u8]) -> Result<Counts, Refused> {
     check_library(library)?;
     check_captures(captures)?;
     Ok(Counts {
-        clauses: count_clauses(library)?,
+        clauses: read_profiles(library)?,
         profiles: book::open(library).count(),
         captures: bundle::Bundle::open(captures).count(),
     })

@@ -1,5 +1,6 @@
 // Reading a profile: whether it is one, and how many clauses it has.
 ghost use mathlib.Core.Path.{_≡_};
+ghost use Rattle.requirement.specs.Laws.{Laws};
 ghost use Rattle.requirement.specs.Reading.{reading-profile};
 ghost use Rattle.profile.specs.Counting.{counted};
 
@@ -17,6 +18,13 @@ const MOST: usize = 1_024;
 
 // Reads a profile: a text, every member as the rules have it, and at most 1,024 clauses. Answers how many.
 pub fn read(profile: &[u8]) -> Result<usize, ProfileFault>
+    ensures is { λ r. ⌜ r ≡ counted (reading-profile (now (profile .entry))) ⌝ }
+    ensures laws { λ _. ⌜ Laws ⌝ }
+{
+    count_clauses(profile)
+}
+
+fn count_clauses(profile: &[u8]) -> Result<usize, ProfileFault>
     ensures { λ r. ⌜ r ≡ counted (reading-profile (now (profile .entry))) ⌝ }
 {
     text::read(profile)?;
