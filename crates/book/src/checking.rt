@@ -10,7 +10,7 @@ use crate::refusal::BookRefusalFromFault;
 use syntax::Kind;
 
 // Where the members of a book begin, or the first rule that it breaks.
-pub fn examine(text: &[u8]) -> Result<usize, BookRefusal>
+pub(crate) fn examine(text: &[u8]) -> Result<usize, BookRefusal>
     ensures { λ r. ⌜ Examined (now (text .entry)) r ⌝ }
 {
     let whole = text::read(text)?;

@@ -14,14 +14,14 @@ use walk::Member;
 pub const MOST: usize = 1024;
 
 // The first of the members that are left.
-pub fn following(text: &[u8], next: Option<usize>) -> Option<Member>
+pub(crate) fn following(text: &[u8], next: Option<usize>) -> Option<Member>
     ensures { λ r. ⌜ BySome r (rest-members (now (text .entry)) next ≡ []) (λ m. Heads (now (text .entry)) (rest-members (now (text .entry)) next) m) ⌝ }
 {
     walk::member(text, next?)
 }
 
 // Whether no more members come from `first` on than a book has.
-pub fn are_few(text: &[u8], first: usize) -> bool
+pub(crate) fn are_few(text: &[u8], first: usize) -> bool
     ensures { λ r. ⌜ r ≡ leb (length (members-from (now (text .entry)) first)) most ⌝ }
 {
     let mut count = 0;
@@ -37,7 +37,7 @@ pub fn are_few(text: &[u8], first: usize) -> bool
 }
 
 // The place of the first name that is no lawful path, among the members from `first` on.
-pub fn first_unlawful(text: &[u8], first: usize) -> Option<usize>
+pub(crate) fn first_unlawful(text: &[u8], first: usize) -> Option<usize>
     ensures { λ r. ⌜ r ≡ unlawful (members-from (now (text .entry)) first) ⌝ }
 {
     let mut next = Some(first);

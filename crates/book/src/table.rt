@@ -38,7 +38,7 @@ fn row(member: Member) -> Row
 }
 
 // A row for each of the members from `first` on.
-pub fn tabulate(text: &[u8], first: usize) -> Table
+pub(crate) fn tabulate(text: &[u8], first: usize) -> Table
     requires short { ⌜ length (now text) ≤ longest ⌝ }
     requires few { ⌜ length (members-from (now text) first) ≤ most ⌝ }
     ensures { λ r. ⌜ Tabled (now (text .entry)) (members-from (now (text .entry)) first) r ⌝ }

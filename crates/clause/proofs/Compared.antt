@@ -2,8 +2,6 @@
 use mathlib.Core.Path.{_≡_, refl, sym, ap, _∙_}
 use mathlib.Core.List.{List, []}
 use Prim.Native.Nat.{ℕ}
-use native.Mathlib.Omega.{arith}
-use lib.IntN.{ℤ}
 use Rattle.std.specs.Options.{mapped, valueOr}
 use Rattle.std.specs.declared.option.Option.{Option}
 use Rattle.std.specs.declared.option.Option.the-variants.{Some, None}
@@ -13,8 +11,8 @@ use Rattle.syntax.specs.declared.kinds.Kind.the-variants as k
 use Rattle.syntax.specs.Value.{Value, literal, number, string, array, object}
 use Rattle.syntax.specs.Reading.{value-at}
 use Rattle.text.specs.declared.part.Part.{Part}
-use Rattle.text.specs.Part.{part-of, part-at, kind-of}
-use Rattle.requirement.specs.Words.{Scalar, Text, Number, Constant, text, whole-number, scalar}
+use Rattle.text.specs.Part.{part-at, kind-of}
+use Rattle.requirement.specs.Words.{Text, Number, Constant, text, whole-number, scalar}
 use Rattle.terms.specs.Places.{value-here}
 use Rattle.terms.proofs.AtPlace.{part-some}
 

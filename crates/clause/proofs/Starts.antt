@@ -1,5 +1,5 @@
 -- The clauses from the start on, and those of an accepted profile.
-use mathlib.Core.Path.{_≡_, refl, sym, ap, _∙_}
+use mathlib.Core.Path.{_≡_, refl, ap, _∙_}
 use mathlib.Core.List.{List}
 use Prim.Native.Nat.{ℕ}
 use Rattle.std.specs.declared.option.Option.the-variants.{Some}
@@ -9,7 +9,6 @@ use Rattle.syntax.specs.declared.kinds.Fault.{Fault}
 use Rattle.syntax.specs.Value.{Value}
 use Rattle.syntax.specs.Reading.{reading, value-at}
 use Rattle.syntax.proofs.Walks.{walks}
-use Rattle.requirement.specs.declared.fault.ProfileFault.{ProfileFault}
 use Rattle.requirement.specs.Clause as r
 use Rattle.requirement.specs.Check.{Check}
 use Rattle.requirement.specs.Reading.{answered, profile-in}

@@ -2,7 +2,6 @@
 use mathlib.Core.Path.{_≡_, refl, sym, ap, _∙_}
 use mathlib.Core.List.{List, [], _∷_, _++_, map, append-assoc}
 use Prim.Native.Nat.{ℕ}
-use Rattle.std.specs.Options.{mapped}
 use Rattle.std.specs.declared.option.Option.{Option}
 use Rattle.std.specs.declared.option.Option.the-variants.{Some, None}
 use Rattle.syntax.specs.Walking as w
@@ -20,7 +19,7 @@ use Rattle.clause.specs.declared.parts.Clause.{Clause}
 use Rattle.clause.specs.declared.parts.Demand.the-variants.{Presence, Property, Nested}
 use Rattle.clause.specs.declared.cursor.Cursor.{Cursor}
 use Rattle.clause.specs.Shown.{entry-shown, parent-shown, clause-shown}
-use Rattle.clause.specs.Left.{nested-left, version-left, schemas-left, behind-version, behind-nested, clauses-from}
+use Rattle.clause.specs.Left.{version-left, schemas-left, behind-version, behind-nested, clauses-from}
 
 -- something in front of a list, and another list behind it
 given-append : {A : Type 0} (o : Option A) (xs ys : List A) → given o xs ++ ys ≡ given o (xs ++ ys)

@@ -1,5 +1,4 @@
 -- What is meant by a clause that is told by places: the clause of the profile.
-use mathlib.Core.Path.{_≡_}
 use mathlib.Core.List.{List, [], _∷_, map}
 use Prim.Native.Nat.{ℕ}
 use Rattle.std.specs.Options.{mapped}
@@ -89,10 +88,6 @@ abbrev pub scalar-shown : List ℕ → Scalar → words.Scalar
 scalar-shown s (scalars.Text p) = words.Text (letters-of s p)
 scalar-shown s (scalars.Number n) = words.Number n
 scalar-shown s (scalars.Constant l) = words.Constant l
-
--- a clause that is told by places, and the clause that it means
-abbrev pub Shows : List ℕ → Clause → r.Clause → Type 0
-Shows s c d = clause-shown s c ≡ d
 
 -- what was told first, and what comes behind it; nothing where nothing was told
 abbrev pub told-values : List ℕ → Option Listed → List words.Scalar

@@ -78,21 +78,21 @@ fn version(profile: &[u8], schema: Part, members: Option<usize>) -> Option<Claus
 fn next_schema(profile: &[u8], cursor: Cursor) -> Option<Taken>
     ensures { λ r. ⌜ schemas-left (now (profile .entry)) cursor ≡ told-clauses (now (profile .entry)) r ⌝ }
 {
-    let found = member(profile, cursor.schemas)?;
-    let members = members_at(profile, found.value.start);
+    let schema = member(profile, cursor.schemas)?;
+    let members = members_at(profile, schema.value.start);
     Some(Taken {
         clause: Clause {
-            schema: found.name,
-            place: found.name.start,
+            schema: schema.name,
+            place: schema.name.start,
             demand: Demand::Presence(level(profile, members, (Grade::Hold, Grade::Hold))),
         },
         rest: Cursor {
             parent: cursor.parent,
             nested: None,
-            schema: found.name,
+            schema: schema.name,
             version: members,
             properties: properties(profile, members),
-            schemas: found.next,
+            schemas: schema.next,
         },
     })
 }
@@ -101,26 +101,26 @@ fn next_schema(profile: &[u8], cursor: Cursor) -> Option<Taken>
 fn next_property(profile: &[u8], cursor: Cursor) -> Option<Taken>
     ensures { λ r. ⌜ behind-version (now (profile .entry)) cursor ≡ told-clauses (now (profile .entry)) r ⌝ }
 {
-    let Some(found) = member(profile, cursor.properties) else {
+    let Some(property) = member(profile, cursor.properties) else {
         return next_schema(profile, cursor);
     };
-    let members = members_at(profile, found.value.start);
-    let entry = entry(profile, found.name, members);
+    let members = members_at(profile, property.value.start);
+    let entry = entry(profile, property.name, members);
     Some(Taken {
         clause: Clause {
             schema: cursor.schema,
-            place: found.name.start,
+            place: property.name.start,
             demand: Demand::Property(entry),
         },
         rest: Cursor {
             parent: Parent {
-                name: found.name,
+                name: property.name,
                 replaced_by: entry.replaced_by,
             },
             nested: properties(profile, members),
             schema: cursor.schema,
             version: None,
-            properties: found.next,
+            properties: property.next,
             schemas: cursor.schemas,
         },
     })
@@ -147,21 +147,21 @@ fn next_version(profile: &[u8], cursor: Cursor) -> Option<Taken>
 pub fn next(profile: &[u8], cursor: Cursor) -> Option<Taken>
     ensures { λ r. ⌜ clauses-from (now (profile .entry)) cursor ≡ told-clauses (now (profile .entry)) r ⌝ }
 {
-    let Some(found) = member(profile, cursor.nested) else {
+    let Some(nested) = member(profile, cursor.nested) else {
         return next_version(profile, cursor);
     };
-    let members = members_at(profile, found.value.start);
+    let members = members_at(profile, nested.value.start);
     Some(Taken {
         clause: Clause {
             schema: cursor.schema,
-            place: found.name.start,
+            place: nested.name.start,
             demand: Demand::Nested {
                 parent: cursor.parent,
-                entry: entry(profile, found.name, members),
+                entry: entry(profile, nested.name, members),
             },
         },
         rest: Cursor {
-            nested: found.next,
+            nested: nested.next,
             ..cursor
         },
     })

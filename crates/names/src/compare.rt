@@ -11,7 +11,7 @@ ghost use mathlib.Core.Bool.{true};
 ghost use mathlib.Core.Path.{_≡_};
 
 // The bytes between the quotes of a name, or none where the places are out of order or pass the text.
-pub fn bytes(text: &[u8], name: Name) -> &[u8]
+pub(crate) fn bytes(text: &[u8], name: Name) -> &[u8]
     ensures { λ r. ⌜ now r ≡ bytes-of (now (text .entry)) name ⌝ }
 {
     if name.start < name.end && name.end as usize <= text.len() {
@@ -37,7 +37,7 @@ pub fn same(a: &[u8], b: &[u8]) -> bool
 }
 
 // Byte by byte; a list that begins another comes before it.
-pub fn order(a: &[u8], b: &[u8]) -> Ordering
+pub(crate) fn order(a: &[u8], b: &[u8]) -> Ordering
     ensures { λ r. ⌜ Ranked r (less (now (a .entry)) (now (b .entry)) ≡ true) (same-bytes (now (a .entry)) (now (b .entry)) ≡ true) (less (now (b .entry)) (now (a .entry)) ≡ true) ⌝ }
 {
     for i in 0..a.len().min(b.len()) {
@@ -107,7 +107,7 @@ fn ahead_far(text: &[u8], a: Name, b: Name) -> bool {
 }
 
 // The same, with little work where names differ in their first eight bytes.
-pub fn ahead(text: &[u8], a: Name, b: Name) -> bool {
+pub(crate) fn ahead(text: &[u8], a: Name, b: Name) -> bool {
     let (i, j) = (a.start as usize + 1, b.start as usize + 1);
     let (a_end, b_end) = (a.end as usize, b.end as usize);
     if text.len() < i + 8 || text.len() < j + 8 || text.len() < a_end || text.len() < b_end {

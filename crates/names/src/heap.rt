@@ -51,7 +51,7 @@ fn sift(text: &[u8], names: &mut [Name], root: usize, end: usize)
     }
 }
 
-pub fn sort(text: &[u8], names: &mut [Name])
+pub(crate) fn sort(text: &[u8], names: &mut [Name])
     ensures rows { λ _. ⌜ Shuffled (now (names .entry)) (now (names .exit)) ⌝ }
 {
     let mut root = names.len() / 2;

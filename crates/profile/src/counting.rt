@@ -60,7 +60,7 @@ fn spend_schema(text: &[u8], m: Member, budget: usize) -> Option<usize>
 }
 
 // The same after the clauses of the schema entries to come.
-pub fn spend_schemas(text: &[u8], first: Option<usize>, budget: usize) -> Option<usize>
+pub(crate) fn spend_schemas(text: &[u8], first: Option<usize>, budget: usize) -> Option<usize>
     ensures { λ r. ⌜ r ≡ spend (length (flat schema-clauses (rest-members (now (text .entry)) first))) budget ⌝ }
 {
     let mut left = budget;

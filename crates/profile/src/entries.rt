@@ -103,7 +103,7 @@ fn entry(text: &[u8], at: usize) -> Check
 }
 
 // Property entries of the first level by name.
-pub fn entry_map(text: &[u8], at: usize) -> Check
+pub(crate) fn entry_map(text: &[u8], at: usize) -> Check
     ensures { λ r. ⌜ r ≡ property-map lawful-entry (value-here (now (text .entry)) at) ⌝ }
 {
     let Some(first) = members(text, at) else {

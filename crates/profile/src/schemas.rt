@@ -61,7 +61,7 @@ fn resources(text: &[u8], at: usize) -> Check
 }
 
 // A profile: what stands beside `Resources` is skipped.
-pub fn check(text: &[u8], at: usize) -> Check
+pub(crate) fn check(text: &[u8], at: usize) -> Check
     ensures { λ r. ⌜ r ≡ lawful-profile (value-here (now (text .entry)) at) ⌝ }
 {
     let Some(first) = members(text, at) else {

@@ -72,6 +72,11 @@ fn book_of(heap: Global, members: usize, last: &[u8]) -> Result<Vec<u8>, AllocEr
 }
 
 pub fn limits(rt: &LibcRuntime) -> io::Result<()> {
+    bundle_limits(rt)?;
+    book_limits(rt)
+}
+
+fn bundle_limits(rt: &LibcRuntime) -> io::Result<()> {
     let heap = rt.alloc();
     show(rt, "1,024 records", of_bundle(&bundle_of(heap, 1_024, 0)?))?;
     show(rt, "1,025 records", of_bundle(&bundle_of(heap, 1_025, 0)?))?;
@@ -94,7 +99,11 @@ pub fn limits(rt: &LibcRuntime) -> io::Result<()> {
         rt,
         "16,777,217 bytes",
         of_bundle(&filled(heap, 16_777_217)?),
-    )?;
+    )
+}
+
+fn book_limits(rt: &LibcRuntime) -> io::Result<()> {
+    let heap = rt.alloc();
     show(
         rt,
         "1,024 members",

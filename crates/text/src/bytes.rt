@@ -7,7 +7,7 @@ ghost use Rattle.syntax.specs.Machine.{next-digits, ended, next-letters, plain}
 use syntax::Digits;
 use syntax::Letters;
 
-pub fn is_white(b: u8) -> bool
+pub(crate) fn is_white(b: u8) -> bool
     ensures { λ r. ⌜ r ≡ white b ⌝ }
 {
     matches!(b, b' ' | b'\t' | b'\n' | b'\r')
@@ -45,7 +45,7 @@ fn is_sign(b: u8) -> bool
 }
 
 // How a number that has come to `so_far` goes on with `b`, if it does.
-pub fn next_digits(so_far: Digits, b: u8) -> Option<Digits>
+pub(crate) fn next_digits(so_far: Digits, b: u8) -> Option<Digits>
     ensures { λ r. ⌜ r ≡ next-digits «so_far» b ⌝ }
 {
     match so_far {
@@ -62,7 +62,7 @@ pub fn next_digits(so_far: Digits, b: u8) -> Option<Digits>
 }
 
 // Whether a number may end there.
-pub fn may_end(so_far: Digits) -> bool
+pub(crate) fn may_end(so_far: Digits) -> bool
     ensures { λ r. ⌜ r ≡ ended «so_far» ⌝ }
 {
     matches!(
@@ -72,14 +72,14 @@ pub fn may_end(so_far: Digits) -> bool
 }
 
 // Whether `b` closes a string that stands at `spot`.
-pub fn closes(spot: Letters, b: u8) -> bool
+pub(crate) fn closes(spot: Letters, b: u8) -> bool
     ensures { λ r. ⌜ r ≡ (plain spot && eqb b 34) ⌝ }
 {
     matches!(spot, Letters::Plain) && b == b'"'
 }
 
 // How a string that stands at `spot` goes on with `b`, if it does.
-pub fn next_letters(spot: Letters, b: u8) -> Option<Letters>
+pub(crate) fn next_letters(spot: Letters, b: u8) -> Option<Letters>
     ensures { λ r. ⌜ r ≡ next-letters spot b ⌝ }
 {
     match spot {

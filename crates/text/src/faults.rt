@@ -5,7 +5,7 @@ ghost use Rattle.syntax.specs.Reading.{too-long};
 use syntax::Cause;
 use syntax::Fault;
 
-pub fn malformed(place: usize) -> Fault
+pub(crate) fn malformed(place: usize) -> Fault
     ensures { λ r. ⌜ r ≡ malformed-at place ⌝ }
 {
     Fault {
@@ -14,7 +14,7 @@ pub fn malformed(place: usize) -> Fault
     }
 }
 
-pub fn too_deep(place: usize) -> Fault
+pub(crate) fn too_deep(place: usize) -> Fault
     ensures { λ r. ⌜ r ≡ too-deep-at place ⌝ }
 {
     Fault {
@@ -23,7 +23,7 @@ pub fn too_deep(place: usize) -> Fault
     }
 }
 
-pub fn repeated(place: usize) -> Fault
+pub(crate) fn repeated(place: usize) -> Fault
     ensures { λ r. ⌜ r ≡ repeated-at place ⌝ }
 {
     Fault {
@@ -32,7 +32,7 @@ pub fn repeated(place: usize) -> Fault
     }
 }
 
-pub fn too_long() -> Fault
+pub(crate) fn too_long() -> Fault
     ensures { λ r. ⌜ r ≡ too-long ⌝ }
 {
     Fault {

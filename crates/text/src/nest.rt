@@ -25,7 +25,7 @@ use syntax::Kind;
 
 // The value whose first byte has to stand at `at`, in which `depth` brackets may open one inside the other.
 // Where names are to be distinct, `names` has rows for all that can come.
-pub fn value_here(
+pub(crate) fn value_here(
     s: &[u8],
     at: usize,
     depth: usize,

@@ -7,7 +7,13 @@ ghost use Rattle.text.specs.Rows.{noted};
 use names::Name;
 
 // Adds a row for the name with its quotes at `start` and `end`, where names are to be distinct, and answers how many rows there are.
-pub fn note(names: &mut [Name], count: usize, distinct: bool, start: usize, end: usize) -> usize
+pub(crate) fn note(
+    names: &mut [Name],
+    count: usize,
+    distinct: bool,
+    start: usize,
+    end: usize,
+) -> usize
     requires within { ⌜ count ≤ length (now names) ⌝ }
     requires room { ⌜ (distinct ≡ true → (count < length (now names)) × (start < 2 ^ 32) × (end < 2 ^ 32)) ⌝ }
     ensures rows { λ r. ⌜ take r (now (names .exit)) ≡ noted distinct (take count (now (names .entry))) start end ⌝ }

@@ -30,7 +30,7 @@ fn quoted(s: &[u8], at: usize) -> Result<Part, Fault>
 }
 
 // The string, number or literal whose first byte stands at `at`.
-pub fn scalar(s: &[u8], at: usize) -> Result<Part, Fault>
+pub(crate) fn scalar(s: &[u8], at: usize) -> Result<Part, Fault>
     requires within { ⌜ at < length (now s) ⌝ }
     requires solid { ⌜ white (getD (now s) at 0) ≡ false ⌝ }
     requires bracket { ⌜ (getD (now s) at 0 ≡ 91 → ⊥) ⌝ }

@@ -32,7 +32,7 @@ pub fn skip(s: &[u8], at: usize) -> usize
 }
 
 // Whether `b` stands at `at`.
-pub fn stands(s: &[u8], at: usize, b: u8) -> bool
+pub(crate) fn stands(s: &[u8], at: usize, b: u8) -> bool
     ensures taken { λ r. ⌜ (r ≡ true → (at < length (now (s .entry))) × (getD (now (s .entry)) at 0 ≡ b)) ⌝ }
     ensures left { λ r. ⌜ (r ≡ false → at < length (now (s .entry)) → getD (now (s .entry)) at 0 ≡ b → ⊥) ⌝ }
 {
@@ -40,7 +40,7 @@ pub fn stands(s: &[u8], at: usize, b: u8) -> bool
 }
 
 // The number whose first byte, at `at`, brought it to `start`.
-pub fn number(s: &[u8], at: usize, start: Digits) -> Result<Part, Fault>
+pub(crate) fn number(s: &[u8], at: usize, start: Digits) -> Result<Part, Fault>
     requires { ⌜ at < length (now s) ⌝ }
     ensures { λ r. ⌜ Numbers start (now (s .entry)) at r ⌝ }
 {
@@ -64,7 +64,7 @@ pub fn number(s: &[u8], at: usize, start: Digits) -> Result<Part, Fault>
 }
 
 // The literal of a kind whose first byte stands at `at`, and of which `rest` is to come.
-pub fn word(s: &[u8], at: usize, rest: &[u8], kind: Kind) -> Result<Part, Fault>
+pub(crate) fn word(s: &[u8], at: usize, rest: &[u8], kind: Kind) -> Result<Part, Fault>
     requires { ⌜ at < length (now s) ⌝ }
     ensures { λ r. ⌜ Words (now (rest .entry)) kind (now (s .entry)) at r ⌝ }
 {
@@ -83,7 +83,7 @@ pub fn word(s: &[u8], at: usize, rest: &[u8], kind: Kind) -> Result<Part, Fault>
 }
 
 // The place of the quote that closes the string whose first byte past its opening quote stands at `at`.
-pub fn string(s: &[u8], at: usize) -> Result<usize, Fault>
+pub(crate) fn string(s: &[u8], at: usize) -> Result<usize, Fault>
     requires { ⌜ at ≤ length (now s) ⌝ }
     ensures { λ r. ⌜ Strings (now (s .entry)) at r ⌝ }
 {
@@ -104,7 +104,7 @@ pub fn string(s: &[u8], at: usize) -> Result<usize, Fault>
 }
 
 // The place of the quote that closes the name whose quote has to stand at `at`.
-pub fn name(s: &[u8], at: usize) -> Result<usize, Fault>
+pub(crate) fn name(s: &[u8], at: usize) -> Result<usize, Fault>
     requires { ⌜ (at < length (now s) → white (getD (now s) at 0) ≡ false) ⌝ }
     ensures { λ r. ⌜ Names (now (s .entry)) at r ⌝ }
 {
@@ -115,7 +115,7 @@ pub fn name(s: &[u8], at: usize) -> Result<usize, Fault>
 }
 
 // The place past the colon that has to come at `at` or behind white space.
-pub fn colon(s: &[u8], at: usize) -> Result<usize, Fault>
+pub(crate) fn colon(s: &[u8], at: usize) -> Result<usize, Fault>
     ensures { λ r. ⌜ Colons (now (s .entry)) at r ⌝ }
 {
     let i = skip(s, at);

@@ -1,10 +1,10 @@
 use borrow.Author.Needs.{needs}
-use mathlib.Core.Path.{_≡_, refl, sym, ap, _∙_}
-use mathlib.Core.Logic.{_⊎_, inl, inr}
-use mir.Val.{SFits, toZ, ofZ}
+use mathlib.Core.Path.{sym, ap, _∙_}
+use mathlib.Core.Logic.{inl, inr}
+use mir.Val.{SFits}
 use mir.Syntax.{w64}
 use Rattle.std.specs.Options.{mapped}
-use Rattle.std.specs.declared.option.Option.the-variants.{Some, None}
+use Rattle.std.specs.declared.option.Option.the-variants.{Some}
 use Rattle.syntax.specs.declared.kinds.Kind.the-variants as k
 use Rattle.requirement.specs.Words.{Text, Number}
 use Rattle.terms.proofs.AtPlace.{part-some, string-text}

@@ -1,6 +1,6 @@
-use mathlib.Core.Path.{_≡_, sym, ap, _∙_}
+use mathlib.Core.Path.{sym, ap, _∙_}
 use Rattle.requirement.specs.Clause.{flat, schema-clauses, members-in, get}
-use Rattle.clause.specs.Left.{clauses-from, clauses-of}
+use Rattle.clause.specs.Left.{clauses-from}
 use Rattle.clause.proofs.Starts.{accepted}
 use Rattle.clause.proofs.steps.first.Needs as need
 

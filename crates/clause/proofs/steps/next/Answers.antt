@@ -7,5 +7,5 @@ returns-in-rest c = no-nested (c .args .profile .now) (c .args .cursor) (c .in-r
 
 pub returns : need.returns
 returns c =
-    nested-taken (c .args .profile .now) (c .args .cursor) (c .in-Some .found) (c .members-at-members .result) (c .members-at-members .ensures)
+    nested-taken (c .args .profile .now) (c .args .cursor) (c .in-Some .nested) (c .members-at-members .result) (c .members-at-members .ensures)
     (c .entry .result) (c .entry .ensures .is) (c .entry .ensures .named) (c .in-Some .ensures tt)
