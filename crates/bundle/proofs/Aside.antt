@@ -4,7 +4,7 @@ use Rattle.std.proofs.lemmas.Bool.{cases_lt, cases_eq, cond-true, cond-false, lt
 use Rattle.bundle.specs.declared.rules.Rule.{Rule}
 use Rattle.bundle.specs.declared.rules.Rule.TheVariants.{RepeatedPath}
 use Rattle.bundle.specs.declared.rules.Refusal.{Refusal}
-use Rattle.bundle.specs.Layout.{path_of, path_fault, body_fault, met, fault, reading, told, place_of, from_record, first_pairs}
+use Rattle.bundle.specs.Layout.{path_of, path_fault, body_fault, met, fault, told, place_of, from_record, first_pairs}
 use Rattle.bundle.specs.Rows.{seen, ending, tells, row_at, blank, Rowed}
 use Rattle.names.specs.declared.name.Name.{Name}
 use Rattle.bundle.proofs.Parts.{body_none, fault_path, fault_met, fault_body}

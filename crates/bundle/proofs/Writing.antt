@@ -1,5 +1,5 @@
 -- A written record is read back, and a record that breaks no rule is written.
-use Rattle.std.proofs.Common.{◌≡◌, ℕ, ◌+◌, ◌-◌, ◌<◌, ◌≤◌, true, false, List, [], ◌∷◌, ◌++◌, length, take, drop, None, sym, refl, ap, ◌∙◌, append_assoc, one-add, arith, length-append, length-drop, take-append-drop}
+use Rattle.std.proofs.Common.{◌≡◌, ℕ, ◌+◌, ◌<◌, ◌≤◌, true, false, List, [], ◌∷◌, ◌++◌, length, take, drop, None, sym, refl, ap, ◌∙◌, append_assoc, one-add, arith, length-append, length-drop, take-append-drop}
 use Rattle.std.proofs.lemmas.List.{get_or-drop, take_at, drop_at, drop-drop, length-take-le}
 use Rattle.store.specs.Pairs.{Pair}
 use Rattle.store.specs.Paths.{lawful_path}

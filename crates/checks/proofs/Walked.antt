@@ -1,5 +1,5 @@
 -- A condition, from what its members are refused for one after the other.
-use Rattle.std.proofs.Common.{◌≡◌, Bool, List, ◌∷◌, Some, Ok, Err, Option, sym, refl, ap, ◌∙◌}
+use Rattle.std.proofs.Common.{◌≡◌, Bool, List, ◌∷◌, Some, Err, sym, ap, ◌∙◌}
 use Rattle.syntax.specs.Value.{Value, from}
 use Rattle.syntax.specs.Walking.{Member}
 use Rattle.requirement.specs.declared.fault.ProfileFault.{ProfileFault}

@@ -1,10 +1,9 @@
 -- What packing answers in each case, and that what is packed opens again.
-use Rattle.std.proofs.Common.{◌≡◌, ℕ, ◌<◌, ◌≤◌, List, ◌++◌, length, take, drop, Ok, Err, Result, sym, refl, ap, ◌∙◌, ⊎_elim, arith}
+use Rattle.std.proofs.Common.{◌≡◌, ℕ, ◌<◌, ◌≤◌, List, ◌++◌, length, take, drop, Ok, Err, Result, refl, ap, ◌∙◌, ⊎_elim, arith}
 use Rattle.std.proofs.lemmas.Bool.{cond-true, cond-false, lt-ltb, le-ltb, cases_lt}
 use Rattle.std.proofs.lemmas.List.{take_at}
-use Rattle.store.specs.Pairs.{Pair, Lawful}
-use Rattle.bundle.specs.Layout.{written, checked, pairs_in, opened}
-use Rattle.bundle.specs.Laws.{Bundles}
+use Rattle.store.specs.Pairs.{Pair}
+use Rattle.bundle.specs.Layout.{written, pairs_in, opened}
 use Rattle.bundle.proofs.Back.{bundle_read}
 use Rattle.packing.specs.declared.PackRefusal.{PackRefusal}
 use Rattle.packing.specs.declared.PackRefusal.TheVariants.{TooLong, TooShort}

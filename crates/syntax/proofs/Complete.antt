@@ -5,7 +5,7 @@ use Rattle.std.proofs.lemmas.Bool.Decides.{nat_tests}
 use Rattle.syntax.specs.declared.kinds.Literal.{Literal}
 use Rattle.syntax.specs.declared.kinds.Literal.TheVariants.{Null, False, True}
 use Rattle.syntax.specs.Bytes.{white, gap}
-use Rattle.syntax.specs.Value.{Value, Items, Members, from, to, literal, number, string, array, object, none, item, end, member, more_items, more_members}
+use Rattle.syntax.specs.Value.{Value, Items, Members, from, to, string, array, object, none, item, end, member, more_items, more_members}
 use Rattle.syntax.specs.Machine.{Rules, run, live, whole, step_live, Frame, in_array, in_object, as_value, as_name, value, first, name1, name, colon, after, deliver, grammar, limits, start}
 use Rattle.syntax.specs.Steps.{Leads}
 use Rattle.syntax.specs.Grammar.{Byte, Ws, Word, letter, spelling, Quoted, Int, Spells, Elements, Fields, Text}

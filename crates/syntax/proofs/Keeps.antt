@@ -1,9 +1,9 @@
 -- Which values are allowed: all by the grammar, and by the limits those that break none.
-use Rattle.std.proofs.Common.{◌≡◌, ℕ, suc, ◌+◌, ◌≤◌, Bool, true, false, cond, leb, List, [], ◌∷◌, ◌++◌, refl, arith}
+use Rattle.std.proofs.Common.{◌≡◌, ℕ, suc, ◌≤◌, Bool, true, false, cond, leb, List, [], ◌∷◌, ◌++◌, refl, arith}
 use Rattle.std.proofs.lemmas.Bool.{cond-false, leb-false, lt-leb}
 use Rattle.syntax.specs.declared.kinds.Fault.{Fault}
 use Rattle.syntax.specs.Value.{Value, Items, Members, literal, number, string, array, object, none, item, end, member, more_members, has}
-use Rattle.syntax.specs.Machine.{grammar, limits, too_deep, repeated}
+use Rattle.syntax.specs.Machine.{grammar, limits, too_deep}
 use Rattle.syntax.specs.Limits.{bracket, again, breaks, breaks_items, breaks_members}
 use Rattle.syntax.proofs.Allowed.{Allowed, AllowedItems, AllowedMembers}
 

@@ -1,11 +1,11 @@
 -- How reading goes on, place by place.
-use Rattle.std.proofs.Common.{◌≡◌, ℕ, zero, suc, ◌+◌, ◌-◌, ◌<◌, ◌≤◌, Bool, true, false, cond, ◌⊎◌, List, [], ◌∷◌, ◌++◌, length, get_or, drop, sym, refl, ap, ◌∙◌, subst, inl, inr, ⊎_elim, arith}
+use Rattle.std.proofs.Common.{◌≡◌, ℕ, zero, suc, ◌+◌, ◌-◌, ◌<◌, ◌≤◌, true, List, [], ◌∷◌, length, get_or, drop, sym, refl, ap, ◌∙◌, ⊎_elim, arith}
 use Rattle.std.proofs.lemmas.List.{drop_more, drop_all}
-use Rattle.std.proofs.lemmas.Bool.{cond-true, cond-false, cases_lt, cases_Bool}
+use Rattle.std.proofs.lemmas.Bool.{cond-true, cases_lt, cases_Bool}
 use Rattle.syntax.specs.declared.kinds.Fault.{Fault}
 use Rattle.syntax.specs.Bytes.{white, gap}
 use Rattle.syntax.specs.Value.{Value}
-use Rattle.syntax.specs.Machine.{Rules, run, State, live, over, step, finish, fault, Outcome, Mode, value, first, after, name1, name, colon, chars, digits, word, Frame, in_array, in_object, step_live, deliver}
+use Rattle.syntax.specs.Machine.{Rules, run, State, live, over, step, finish, fault, Outcome, value, first, after, name1, name, colon, chars, digits, word, Frame, in_array, in_object, deliver}
 use Rattle.syntax.specs.Steps.{Leads, Fails, Loose}
 use Rattle.syntax.proofs.Gaps.{gap_white, gap_solid, gap_end}
 

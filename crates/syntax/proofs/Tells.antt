@@ -5,13 +5,12 @@ use Rattle.std.proofs.lemmas.Bool.{cond-true, cond-false, ltb-true, ltb-false}
 use Rattle.syntax.specs.declared.kinds.Cause.{Cause}
 use Rattle.syntax.specs.declared.kinds.Fault.{Fault}
 use Rattle.syntax.specs.Bytes.{white, whites, gap}
-use Rattle.syntax.specs.Value.{Value, from, to}
-use Rattle.syntax.specs.Grammar.{Text, Begins, Spells, Ws}
+use Rattle.syntax.specs.Value.{Value, to}
+use Rattle.syntax.specs.Grammar.{Text, Begins, Ws}
 use Rattle.syntax.specs.Limits.{breaks}
 use Rattle.syntax.specs.Laws.{Lawful, BreaksOff, NoneBefore, FirstBreak, Late, Says, Tells}
 use Rattle.syntax.specs.Reading.{reading, alone, longest, too_long}
-use Rattle.syntax.specs.Machine.{Rules, grammar, limits, run, start, State, live, over, step_live, finish, Outcome, whole, fault, malformed, Mode, value, Frame}
-use Rattle.syntax.proofs.Allowed.{Allowed}
+use Rattle.syntax.specs.Machine.{grammar, run, start, State, live, over, step_live, finish, Outcome, whole, fault, malformed, Mode, value, Frame}
 use Rattle.syntax.proofs.Gaps.{gap_end, gap_within}
 use Rattle.syntax.proofs.Runs.{run_over}
 use Rattle.syntax.proofs.Viable.{Fits, can}

@@ -1,5 +1,5 @@
 -- Reading byte by byte: what may come next, and what stands open around it. Reading ends where a value is whole, or with a fault.
-use Rattle.std.specs.Prelude.{◌≡◌, ℕ, ◌+◌, Bool, true, false, cond, ◌&&◌, ◌||◌, List, [], ◌∷◌, ◌++◌, length, Some, None, codes, Option, ◌==◌, nat_le, nat_lt}
+use Rattle.std.specs.Prelude.{ℕ, ◌+◌, Bool, true, false, cond, ◌&&◌, List, [], ◌∷◌, ◌++◌, length, Some, None, codes, Option, ◌==◌, nat_le, nat_lt}
 use Rattle.syntax.specs.declared.kinds.Cause.TheVariants.{Malformed, TooDeep, RepeatedName}
 use Rattle.syntax.specs.declared.kinds.Fault.{Fault}
 use Rattle.syntax.specs.declared.kinds.Literal.{Literal}

@@ -1,5 +1,5 @@
 -- What reading a text answers, and the value at a place of any bytes.
-use Rattle.std.specs.Prelude.{ℕ, ◌+◌, Bool, true, false, cond, List, [], ◌∷◌, length, drop, Some, None, Ok, Err, Option, Result, nat_lt}
+use Rattle.std.specs.Prelude.{ℕ, true, false, cond, List, length, drop, Some, None, Ok, Err, Option, Result, nat_lt}
 use Rattle.syntax.specs.declared.kinds.Cause.{Cause}
 use Rattle.syntax.specs.declared.kinds.Cause.TheVariants.{TooLong, Malformed, TooDeep, RepeatedName}
 use Rattle.syntax.specs.declared.kinds.Fault.{Fault}

@@ -1,7 +1,7 @@
 -- How reading goes on, place by place: the words in which the parts of the reader say what they did.
 use Rattle.std.specs.Prelude.{◌≡◌, ℕ, List, [], ◌∷◌, drop}
 use Rattle.syntax.specs.declared.kinds.Fault.{Fault}
-use Rattle.syntax.specs.Machine.{Rules, State, live, over, run, fault, Mode, value, first, after, name1, name, colon, chars, digits, word}
+use Rattle.syntax.specs.Machine.{Rules, State, live, over, run, fault, value, first, after, name1, name, colon, chars, digits, word}
 
 -- reading s on from the place i in one state is reading it on from the place j in another
 abbrev pub Leads : Rules → List ℕ → ℕ → State → ℕ → State → Type 0

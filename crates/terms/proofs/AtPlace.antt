@@ -5,7 +5,7 @@ use Rattle.syntax.specs.declared.kinds.Literal as l
 use Rattle.syntax.specs.declared.kinds.Kind.{Kind}
 use Rattle.syntax.specs.declared.kinds.Kind.TheVariants as k
 use Rattle.syntax.specs.Bytes.{same}
-use Rattle.syntax.specs.Value.{Value, Items, Members, literal, number, string, array, object, from, to}
+use Rattle.syntax.specs.Value.{Value, literal, number, string, array, object, from, to}
 use Rattle.syntax.specs.Reading.{value_at}
 use Rattle.syntax.specs.Walking as w
 use Rattle.syntax.specs.Walking.{item_at, member_at, items_from, members_from, rest_items, rest_members, find, whole}
@@ -16,7 +16,7 @@ use Rattle.walk.specs.declared.found.Item.{Item}
 use Rattle.walk.specs.declared.found.Member.{Member}
 use Rattle.walk.specs.Told.{item_told, member_told, letters_of, digits_of}
 use Rattle.requirement.specs.Words.{text, elements, fields, whole_number, scalar}
-use Rattle.terms.specs.Places.{value_here, member_here, told_items, told_members}
+use Rattle.terms.specs.Places.{value_here, told_items, told_members}
 
 abbrev unread : ℕ → Value
 unread i = number i i []

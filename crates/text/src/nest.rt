@@ -16,7 +16,7 @@ use syntax::{Fault, Kind};
 
 // The value whose first byte has to stand at `at`, in which `depth` brackets may open one inside the other.
 // Where names are to be distinct, `names` has rows for all that can come.
-#[cycle(array_members_object_value_here)]
+#[cycle(nesting)]
 pub(crate) fn value_here(
     s: &[u8],
     at: usize,
@@ -39,7 +39,7 @@ pub(crate) fn value_here(
 }
 
 // The array whose bracket stands at `open`.
-#[cycle(array_members_object_value_here)]
+#[cycle(nesting)]
 fn array(
     s: &[u8],
     open: usize,
@@ -81,7 +81,7 @@ fn array(
 }
 
 // The object whose brace stands at `open`. A repeated name in it stands before whatever else is wrong with it.
-#[cycle(array_members_object_value_here)]
+#[cycle(nesting)]
 fn object(
     s: &[u8],
     open: usize,
@@ -106,7 +106,7 @@ fn object(
 }
 
 // The same, with the names of the object itself left uncompared in the first `count` rows.
-#[cycle(array_members_object_value_here)]
+#[cycle(nesting)]
 fn members(
     s: &[u8],
     open: usize,

@@ -6,7 +6,17 @@ pub invariant_of-result : goal.invariant_of-result
 invariant_of-result c =
     let k = c.table_of-table.ensures in
     let l = lawful_store c.args.text.now in
-    (k.counted, (k.within, (k.paths, (k.bodies, (k.places, (l.few, (l.named, (l.small, (l.apart, tt)))))))))
+    record {
+      counted = k.counted;
+      within = k.within;
+      paths = k.paths;
+      bodies = k.bodies;
+      places = k.places;
+      few = l.few;
+      named = l.named;
+      small = l.small;
+      apart = l.apart;
+    }
 
 pub returns : goal.returns
 returns c = record { over = refl; passes = passes; lawful = lawful_store }

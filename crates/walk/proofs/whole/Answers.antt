@@ -13,12 +13,12 @@ rest s e = sym (whole_minus s (take (length s - 1) (drop 1 s)) e (between_to_end
 signed : (n : ℕ) → n < 10 ^ 18 → to_z w64 (of_z w64 (pos 0 -ℤ to_z w64 n)) ≡ negative n
 signed n h = omega (arith, ints)
 
-pub returns-in_err-n : goal.returns-in_err-n
-returns-in_err-n c =
+pub returns-in_err-n-in-45 : goal.returns-in_err-n-in-45
+returns-in_err-n-in-45 c =
     let e : get_or c.args.bytes.now 0 0 ≡ 45 = omega arith in
-    c.from_residual.ensures ∙ ap (option_map negative) c.in_err-n.ensures.is ∙ rest c.args.bytes.now e
+    c.from_residual.ensures ∙ ap (option_map negative) c.in_err-n-in-45.ensures.is ∙ rest c.args.bytes.now e
 
-pub returns-in_ok-n : goal.returns-in_ok-n
-returns-in_ok-n c =
+pub returns-in_ok-n-in-45 : goal.returns-in_ok-n-in-45
+returns-in_ok-n-in-45 c =
     let e : get_or c.args.bytes.now 0 0 ≡ 45 = omega arith in
-    ap Some (signed c.in_ok-n.n c.in_ok-n.ensures.small) ∙ ap (option_map negative) c.in_ok-n.ensures.is ∙ rest c.args.bytes.now e
+    ap Some (signed c.in_ok-n-in-45.n c.in_ok-n-in-45.ensures.small) ∙ ap (option_map negative) c.in_ok-n-in-45.ensures.is ∙ rest c.args.bytes.now e

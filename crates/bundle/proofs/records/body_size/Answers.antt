@@ -1,5 +1,5 @@
 use Rattle.std.proofs.Common.{length, ap, ◌∙◌, arith}
-use Rattle.bundle.specs.Layout.{behind_path, body_size, four}
+use Rattle.bundle.specs.Layout.{body_size, four}
 use Rattle.bundle.proofs.Parts.{length_behind}
 use Rattle.bundle.proofs.records.body_size.Goals as goal
 

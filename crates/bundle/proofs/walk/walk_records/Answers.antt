@@ -1,6 +1,6 @@
 use Rattle.std.proofs.Common.{◌≡◌, ℕ, ◌+◌, ◌-◌, ◌≤◌, List, length, drop, set, None, sym, ap, ◌∙◌, arith, length-drop, length-set}
 use Rattle.bundle.specs.Layout.{path_fault, body_fault, extent, path_size, from_record}
-use Rattle.bundle.specs.Rows.{seen, tells, row_at, Rowed}
+use Rattle.bundle.specs.Rows.{row_at, Rowed}
 use Rattle.bundle.proofs.Parts.{path_none, body_none}
 use Rattle.bundle.proofs.Steps.{place_more}
 use Rattle.bundle.proofs.Aside.{ends_path, ends_body, keeps_on, ends_all, rows_more}

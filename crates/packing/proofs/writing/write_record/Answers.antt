@@ -1,5 +1,5 @@
 -- Each part of the record goes behind the one before it.
-use Rattle.std.proofs.Common.{◌≡◌, ℕ, ◌+◌, ◌≤◌, List, [], ◌∷◌, ◌++◌, length, ap, ◌∙◌, append_assoc, arith, length-append}
+use Rattle.std.proofs.Common.{◌≡◌, ℕ, ◌≤◌, List, [], ◌∷◌, ◌++◌, length, ap, ◌∙◌, append_assoc, arith, length-append}
 use Rattle.bundle.specs.Layout.{in_four, record_of}
 use Rattle.packing.specs.Packing.{over, pair}
 use Rattle.packing.proofs.Over.{then_over}

@@ -16,4 +16,11 @@ table-places-requires c =
 pub invariant_of-result : goal.invariant_of-result
 invariant_of-result c =
     let o = opens c.args.bytes.now in
-    (c.pair_count-count.ensures, (c.table-places.ensures, (o.few, (o.sound.named, (o.sound.small, (o.sound.apart, tt))))))
+    record {
+      counted = c.pair_count-count.ensures;
+      placed = c.table-places.ensures;
+      few = o.few;
+      named = o.sound.named;
+      small = o.sound.small;
+      apart = o.sound.apart;
+    }

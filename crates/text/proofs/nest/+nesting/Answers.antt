@@ -12,8 +12,8 @@ use Rattle.std.proofs.lemmas.Slice.{take-put_mid_below}
 use Rattle.names.specs.declared.name.Name.{Name}
 use Rattle.names.specs.Repeats.{FirstRepeat, Ascending}
 use Rattle.text.proofs.Members.{Named, Goes, inside, name_read, colon_read, colon_out, value_read, value_out, closed, comma, neither, next_name, no_members, no_names, none_repeats, one_repeats}
-use Rattle.text.proofs.nest.+array_members_object_value_here.Goals as goal
-use Rattle.text.proofs.nest.+array_members_object_value_here.Goals.{array-After-skip-i, array-After-skip-close, members-After-skip-i, members-After-value_here, members-After-skip-close}
+use Rattle.text.proofs.nest.+nesting.Goals as goal
+use Rattle.text.proofs.nest.+nesting.Goals.{array-After-skip-i, array-After-skip-close, members-After-skip-i, members-After-value_here, members-After-skip-close}
 
 pub array-returns-then-depth-eq0 : goal.array-returns-then-depth-eq0
 array-returns-then-depth-eq0 t c = λ k n.

@@ -1,7 +1,7 @@
 use Rattle.std.proofs.Common.{◌+◌, ◌-◌, ◌*◌, length}
 use Rattle.text.proofs.Items.{ItemsSoFar}
 use Rattle.text.proofs.Members.{SoFar}
-use Rattle.text.proofs.nest.+array_members_object_value_here.Given as goal
+use Rattle.text.proofs.nest.+nesting.Given as goal
 
 abbrev pub decreases-members : goal.decreases-members
 decreases-members l = 3 * l.depth

@@ -1,6 +1,6 @@
 use Rattle.std.proofs.Common.{refl}
 use Rattle.terms.proofs.Tables.{hit, miss}
-use Rattle.terms.proofs.names.schema_name.Goals as goal
+use Rattle.terms.proofs.member_names.schema_name.Goals as goal
 
 pub returns-then-same : goal.returns-then-same
 returns-then-same c = hit _ _ c.if-same.ensures

@@ -1,5 +1,5 @@
 use Rattle.terms.proofs.Tables.{hit, miss}
-use Rattle.terms.proofs.names.own_entry_name.Goals as goal
+use Rattle.terms.proofs.member_names.own_entry_name.Goals as goal
 
 pub returns-then-same : goal.returns-then-same
 returns-then-same c = hit _ _ c.if-same.ensures
