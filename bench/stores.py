@@ -1,7 +1,7 @@
 #!/usr/bin/env python3
 """What checking and opening stores costs, in instructions by callgrind.
 
-    bench/stores.py          (after rt check textcheck inspect pack; wants valgrind)
+    bench/stores.py          (after tools/run textcheck, tools/run inspect and tools/run pack; wants valgrind)
 
 A bundle of 1,024 records whose paths are long and differ only at their ends, in the 65,536 bytes that `inspect` takes: what `inspect` spends on it
 beyond an empty bundle, which is one check and one opening (an opening checks too). And a book of 1,024 members in 1 MiB: what `pack` spends on it (a
@@ -14,8 +14,11 @@ import sys
 import tempfile
 
 ROOT = os.path.dirname(os.path.dirname(os.path.abspath(__file__)))
-BIN = os.path.join(ROOT, "target", "bin")
 EMPTY = b"CAP\x00\x01\x00\x00"
+
+
+def built(program):
+    return os.path.join(ROOT, "crates", program, "out", program)
 
 
 def bundle(count):
@@ -38,14 +41,14 @@ def instructions(program, files):
         for name, data in files.items():
             with open(os.path.join(folder, name), "wb") as out:
                 out.write(data)
-        done = subprocess.run(["valgrind", "--tool=callgrind", "--callgrind-out-file=/dev/null", os.path.join(BIN, program)], cwd=folder, capture_output=True, text=True)
+        done = subprocess.run(["valgrind", "--tool=callgrind", "--callgrind-out-file=/dev/null", built(program)], cwd=folder, capture_output=True, text=True)
         return int(re.search(r"Collected : (\d+)", done.stderr).group(1)), done.stdout.strip()
 
 
 def main():
     for program in ("textcheck", "inspect", "pack"):
-        if not os.path.exists(os.path.join(BIN, program)):
-            sys.exit("bench: first run: rt check textcheck inspect pack")
+        if not os.path.exists(built(program)):
+            sys.exit(f"bench: first run: tools/run {program}")
     library = b"{}"
     full, said = instructions("inspect", {"library.json": library, "captures.cap": bundle(1024)})
     base, _ = instructions("inspect", {"library.json": library, "captures.cap": EMPTY})

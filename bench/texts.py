@@ -1,7 +1,7 @@
 #!/usr/bin/env python3
 """What reading a text costs: instructions by callgrind, and the time beside jq's reader in the same run.
 
-    bench/texts.py          (after rt check textcheck; wants valgrind and jq)
+    bench/texts.py          (after tools/run textcheck; wants valgrind and jq)
 
 It writes three texts of 1 MiB into a temporary folder: ordinary resources, one object of some 100,000 distinct short names,
 and the same with its last name repeated; and a text of two bytes, whose cost is taken off as that of starting the program.
@@ -16,7 +16,7 @@ import time
 
 SIZE = 1048576
 ROOT = os.path.dirname(os.path.dirname(os.path.abspath(__file__)))
-PROGRAM = os.path.join(ROOT, "target", "bin", "textcheck")
+PROGRAM = os.path.join(ROOT, "crates", "textcheck", "out", "textcheck")
 
 
 def resource(n):
@@ -76,7 +76,7 @@ def seconds(words, folder):
 
 def main():
     if not os.path.exists(PROGRAM):
-        sys.exit("bench: first run: rt check textcheck")
+        sys.exit("bench: first run: tools/run textcheck")
     texts = {"small": b"[]", "ordinary": ordinary(), "names": hostile(False), "repeated": hostile(True)}
     with tempfile.TemporaryDirectory() as top:
         cost = {}

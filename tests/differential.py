@@ -1,7 +1,7 @@
 #!/usr/bin/env python3
 """Compares the library with tests/independent.py on many random samples, lawful and damaged.
 
-    tests/differential.py [SEED [COUNT]]          (after rt check samples)
+    tests/differential.py [SEED [COUNT]]          (after tools/run samples)
 
 It writes tables as crates/samples has them, with the verdicts of the independent reading, and runs the program `samples` on them. It is no part of the
 gate. With `tables` as its first word it checks the stored tables of crates/samples instead.
@@ -15,7 +15,7 @@ import tempfile
 import independent
 
 ROOT = os.path.dirname(os.path.dirname(os.path.abspath(__file__)))
-PROGRAM = os.path.join(ROOT, "target", "bin", "samples")
+PROGRAM = os.path.join(ROOT, "crates", "samples", "out", "samples")
 TABLES = os.path.join(ROOT, "crates", "samples", "data")
 READINGS = {"texts.txt": independent.text, "bundles.txt": independent.bundle, "books.txt": independent.book, "profiles.txt": independent.profile}
 BYTES = b'{}[]",:\\ \n0123456789-+.eEtrufalsn/u"a\x00\x1f\x80'
