@@ -10,7 +10,7 @@ use Rattle.text.specs.Part.{part_read}
 use Rattle.requirement.specs.declared.fault.ProfileFault.{ProfileFault}
 use Rattle.requirement.specs.declared.fault.ProfileFault.TheVariants.{TooMany}
 use Rattle.requirement.specs.Clause.{Clause, clauses}
-use Rattle.requirement.specs.Check.{Check, fine, sure, ◌then◌, profile}
+use Rattle.requirement.specs.Check.{Check, sure, ◌then◌, profile}
 use Rattle.requirement.specs.Reading.{most, few, answered, profile_of, profile_in, reading_profile}
 use Rattle.terms.specs.Places.{value_here}
 use Rattle.terms.proofs.AtPlace.{here_some}

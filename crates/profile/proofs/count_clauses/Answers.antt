@@ -1,4 +1,4 @@
-use Rattle.std.proofs.Common.{◌≡◌, length, Err, sym, ap, ◌∙◌}
+use Rattle.std.proofs.Common.{length, Err, sym, ap, ◌∙◌}
 use Rattle.std.proofs.lemmas.Result.{err_from_is_err_and}
 use Rattle.requirement.specs.Clause.{flat, schema_clauses}
 use Rattle.terms.specs.Places.{value_here}
