@@ -1,6 +1,7 @@
 -- The numbers by which refusals of a book are told, their causes and their places.
 use Rattle.std.specs.Prelude.{ℕ}
 use Rattle.syntax.specs.Reading as text
+use Rattle.refused.specs.declared.Refused.{Refused}
 use Rattle.book.specs.declared.refusal.BookRefusal.{BookRefusal}
 use Rattle.book.specs.declared.refusal.BookRefusal.TheVariants.{Text, NoObject, TooMany, UnlawfulPath}
 
@@ -23,3 +24,6 @@ place (Text f) = f.place
 place NoObject = 0
 place TooMany = 0
 place (UnlawfulPath q) = q
+
+abbrev pub told : BookRefusal → Refused
+told r = record { number = number r; cause = cause r; place = place r }

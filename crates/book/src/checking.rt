@@ -6,34 +6,29 @@ ghost use Rattle.book.specs.Rows.{Examined};
 
 use crate::members::{are_few, first_unlawful};
 use crate::refusal::BookRefusal;
-use syntax::Kind;
+use walk::{Members, Value};
 
-// Where the members of a book begin, or the first rule that it breaks.
-pub(crate) fn examine(text: &[u8]) -> Result<usize, BookRefusal>
+// The members of a book, or the first rule that it breaks.
+pub(crate) fn examine(text: &[u8]) -> Result<Members<'_>, BookRefusal>
     ensures { Examined text.now result }
 {
-    let whole = text::read(text)?;
-    let Kind::Object = whole.kind else {
+    let Some(members) = Value::read(text)?.members() else {
         return Err(BookRefusal::NoObject);
     };
-    let first = whole.start + 1;
-    if !are_few(text, first) {
+    if !are_few(members) {
         return Err(BookRefusal::TooMany);
     }
-    match first_unlawful(text, first) {
+    match first_unlawful(members) {
         Some(place) => Err(BookRefusal::UnlawfulPath(place)),
-        None => Ok(first),
+        None => Ok(members),
     }
 }
 
-// Whether the bytes are a book, and if not, the first rule that they break.
+/// Whether the bytes are a book, and if not, the first rule that they break.
 pub fn check(text: &[u8]) -> Result<(), BookRefusal>
     ensures is { result ≡ checked (listing text.now) }
     ensures passes { Passes }
     ensures tells { Tells }
 {
-    match examine(text) {
-        Ok(_) => Ok(()),
-        Err(refusal) => Err(refusal),
-    }
+    examine(text).map(|_| ())
 }

@@ -1,11 +1,11 @@
-// A search store over a lent text, whose object has the paths for names and the bodies for values.
+//! A search store over a lent text, whose object has the paths for names and the bodies for values.
 #![tactic(auto)]
 
 ghost use Rattle.std.specs.Prelude.{◌≡◌, length, take, drop};
-ghost use Rattle.store.specs.Pairs.{Few, Named, Small, Apart, path_at, body_at};
+ghost use Rattle.store.specs.Pairs.{Lawful, path_at, body_at};
 ghost use Rattle.book.specs.Listing.{opened, path_place, body_place};
 ghost use Rattle.book.specs.Laws.{Passes, LawfulStore};
-ghost use Rattle.book.specs.Rows.{Within, Paths, Bodies, Places, Keeps};
+ghost use Rattle.book.specs.Rows.{Keeps};
 
 mod checking;
 mod members;
@@ -13,76 +13,62 @@ mod refusal;
 mod row;
 mod table;
 
+use arrayvec::ArrayVec;
 pub use checking::check;
-use checking::examine;
 pub use refusal::BookRefusal;
-use row::{Row, Table};
-use store::{Search, Store};
-use table::{BLANK, tabulate};
+use row::Row;
+use std::alloc::AllocError;
+use store::{MAX_PAIRS, Search, Store};
+use table::table_of;
 
-// An open book: its bytes, and the places of its paths and bodies.
-#[derive(Clone, Copy)]
+/// An open book: its bytes, and the places of its paths and bodies.
+#[derive(Drop)]
 pub struct Book<'a> {
     text: &'a [u8],
-    rows: [Row; 1024],
-    count: usize,
-    ghost counted: { count ≡ length (opened text.now) },
-    ghost within: { Within text.now rows count },
-    ghost paths: { Paths text.now rows count },
-    ghost bodies: { Bodies text.now rows count },
-    ghost places: { Places text.now rows count },
-    ghost few: { Few (opened text.now) },
-    ghost named: { Named (opened text.now) },
-    ghost small: { Small (opened text.now) },
-    ghost apart: { Apart (opened text.now) },
+    rows: ArrayVec<Row, MAX_PAIRS>,
+    ghost keeps: { Keeps text.now rows.items },
+    ghost lawful: { Lawful (opened text.now) },
 }
 
-// The store over a book, which has no pairs where the check refuses the bytes.
+/// The store over a book, which has no pairs where the check refuses the bytes.
 pub fn open<'a>(text: &'a [u8]) -> Book<'a>
     ensures over { result.text.now ≡ text.now }
     ensures passes { Passes }
     ensures lawful { LawfulStore }
 {
-    let table = table_of(text);
-    let rows = table.rows;
     Book {
         text,
-        rows,
-        count: table.count,
+        rows: table_of(text),
     }
 }
 
-// The table of a book, with no rows where the check refuses the bytes.
-fn table_of(text: &[u8]) -> Table
-    ensures { Keeps text.now result }
-{
-    match examine(text) {
-        Ok(first) => tabulate(text, first),
-        Err(_) => Table {
-            rows: [BLANK; 1024],
-            count: 0,
-        },
+/// Another book over the same bytes, which are read again.
+// by hand: the clone of its table might fail
+impl<'a> Clone for Book<'a> {
+    ghost is_clone = { λ book clone. clone.text.now ≡ book.text.now };
+
+    ghost is_infallible = { λ _. Unit {0} };
+
+    fn clone(&self) -> Result<Book<'a>, AllocError> {
+        Ok(open(self.text))
     }
 }
 
 impl<'a> Store for Book<'a> {
     ghost pairs = { λ b. opened b.text.now };
 
-    ghost lawful = { λ b. record { few = b.few; named = b.named; small = b.small; apart = b.apart } };
-
     fn count(&self) -> usize {
-        self.count
+        self.rows.len()
     }
 
+    // Apart from `body`, as the trait has it: one function for both would be told the part by a closure, and be no plainer.
     fn path(&self, n: usize) -> &[u8]
         ensures contents { result.now ≡ path_at (opened self.now.text.now) n }
         ensures place { result.now ≡ take (length result.now) (drop (path_place self.now.text.now n) self.now.text.now) }
     {
-        if n < self.count {
-            let path = self.rows[n].path;
-            &self.text[path.start as usize..path.end as usize]
-        } else {
-            &[]
+        match self.rows.get(n) {
+            Some(row) => &self.text[row.path.start as usize..row.path.end as usize],
+            None => &[],
         }
     }
 
@@ -90,13 +76,13 @@ impl<'a> Store for Book<'a> {
         ensures contents { result.now ≡ body_at (opened self.now.text.now) n }
         ensures place { result.now ≡ take (length result.now) (drop (body_place self.now.text.now n) self.now.text.now) }
     {
-        if n < self.count {
-            let body = self.rows[n].body;
-            &self.text[body.start as usize..body.end as usize]
-        } else {
-            &[]
+        match self.rows.get(n) {
+            Some(row) => &self.text[row.body.start as usize..row.body.end as usize],
+            None => &[],
         }
     }
+
+    ghost lawful = { λ b. b.lawful };
 }
 
 impl<'a> Search for Book<'a> {}

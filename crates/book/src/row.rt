@@ -1,20 +1,8 @@
-// The bytes of a book from `start` up to `end`.
-#[derive(Clone, Copy)]
-pub struct Span {
-    pub start: u32,
-    pub end: u32,
-}
+use names::Span;
 
-// Where the path and the body of a pair stand.
-#[derive(Clone, Copy)]
+/// Where the path and the body of a pair stand, each up to the place past its last byte.
+#[derive(Clone, Copy, Debug, Default, PartialEq, Eq)]
 pub struct Row {
     pub path: Span,
     pub body: Span,
-}
-
-// The rows of a book, of which the first `count` are used.
-#[derive(Clone, Copy)]
-pub struct Table {
-    pub rows: [Row; 1024],
-    pub count: usize,
 }

@@ -1,12 +1,11 @@
 -- The walk that leaves repeated paths aside, and the reading.
-use Rattle.std.proofs.Common.{◌≡◌, ℕ, zero, suc, ◌+◌, ◌-◌, ◌<◌, ◌≤◌, Bool, true, false, ◌≢◌, ◌⊎◌, List, length, drop, set, Some, None, Err, Option, Result, sym, refl, ap, ◌∙◌, subst, inl, inr, ⊎_elim, arith, length-drop, get_or-set_other, get_or-set_same, below_more}
+use Rattle.std.proofs.Common.{◌≡◌, ℕ, zero, suc, ◌+◌, ◌<◌, ◌≤◌, Bool, true, false, ◌⊎◌, List, length, Some, None, Err, Option, Result, sym, refl, ap, ◌∙◌, subst, inl, inr, ⊎_elim, arith, length-drop}
 use Rattle.std.proofs.lemmas.Bool.{cases_lt, cases_eq, cond-true, cond-false, lt-ltb, le-ltb}
 use Rattle.bundle.specs.declared.rules.Rule.{Rule}
 use Rattle.bundle.specs.declared.rules.Rule.TheVariants.{RepeatedPath}
 use Rattle.bundle.specs.declared.rules.Refusal.{Refusal}
 use Rattle.bundle.specs.Layout.{path_of, path_fault, body_fault, met, fault, told, place_of, from_record, first_pairs}
-use Rattle.bundle.specs.Rows.{seen, ending, tells, row_at, blank, Rowed}
-use Rattle.names.specs.declared.name.Name.{Name}
+use Rattle.bundle.specs.Rows.{seen, tells}
 use Rattle.bundle.proofs.Parts.{body_none, fault_path, fault_met, fault_body}
 use Rattle.bundle.proofs.Steps.{reading_at, reading_all, reading_left, reading_stops, reading_more, place_more}
 
@@ -121,47 +120,6 @@ walk_old (suc m) bs n j h l old new = ⊎_elim
     (cases_eq n j))
     (λ p. absurd (omega (arith, (path_stops m bs n p.0 p.1).0)))
     (cases_fault (path_fault (from_record bs n)))
-
--- The loop over the records: n of `count` are walked, and the whole walk sees `all` and tells `whole`.
-module _ (bs : List ℕ) (count n place all : ℕ) (whole : Result (Unit {0}) Refusal) (at : place ≡ place_of bs n)
-    (sees : seen (count - n) bs n ≡ all) (says : tells (count - n) bs n ≡ whole) where
-  there : {A : Type 0} (f : List ℕ → A) → f (drop place bs) ≡ f (from_record bs n)
-  there f = ap (λ (p : ℕ). f (drop p bs)) at
-
-  sees_on : n < count → seen (suc (count - (n + 1))) bs n ≡ all
-  sees_on h = let less : suc (count - (n + 1)) ≡ count - n = omega arith in ap (λ (m : ℕ). seen m bs n) less ∙ sees
-
-  says_on : n < count → tells (suc (count - (n + 1))) bs n ≡ whole
-  says_on h = let less : suc (count - (n + 1)) ≡ count - n = omega arith in ap (λ (m : ℕ). tells m bs n) less ∙ says
-
-  pub ends_path : (rule : Rule) → n < count → path_fault (drop place bs) ≡ Some rule → (n ≡ all) × (at_place rule place ≡ whole)
-  ends_path rule h e =
-      let w = path_stops (count - (n + 1)) bs n rule (sym (there path_fault) ∙ e) in
-      (sym w.0 ∙ sees_on h, ap (at_place rule) at ∙ sym w.1 ∙ says_on h)
-
-  pub ends_body : (rule : Rule) → n < count → path_fault (drop place bs) ≡ None → body_fault (drop place bs) ≡ Some rule → (n + 1 ≡ all) × (at_place rule place ≡ whole)
-  ends_body rule h e f =
-      let w = body_stops (count - (n + 1)) bs n rule (sym (there path_fault) ∙ e) (sym (there body_fault) ∙ f) in
-      (sym w.0 ∙ sees_on h, ap (at_place rule) at ∙ sym w.1 ∙ says_on h)
-
-  pub keeps_on : n < count → path_fault (drop place bs) ≡ None → body_fault (drop place bs) ≡ None
-      → (seen (count - (n + 1)) bs (n + 1) ≡ all) × (tells (count - (n + 1)) bs (n + 1) ≡ whole)
-  keeps_on h e f =
-      let w = walks_on (count - (n + 1)) bs n (sym (there path_fault) ∙ e) (sym (there body_fault) ∙ f) in
-      (sym w.0 ∙ sees_on h, sym w.1 ∙ says_on h)
-
-  pub ends_all : count ≡ n → (count ≡ all) × (ending bs place ≡ whole)
-  unfolding seen tells
-  ends_all h =
-      let none : 0 ≡ count - n = omega arith in
-      (h ∙ ap (λ (m : ℕ). seen m bs n) none ∙ sees, ap (ending bs) at ∙ ap (λ (m : ℕ). tells m bs n) none ∙ says)
-
--- one row more in the table
-pub rows_more : (bs : List ℕ) (rows : List Name) (n : ℕ) (row : Name) → n < length rows → Rowed bs rows n → row ≡ row_at bs n → Rowed bs (set rows n row) (n + 1)
-rows_more bs rows n row h old new =
-    below_more _ _
-    (λ k l. let ne : k ≢ n = omega arith in get_or-set_other rows n k row blank ne ∙ old k l)
-    (get_or-set_same rows n row blank h ∙ new)
 
 -- a record that is seen begins within the bytes
 pub seen_near : (m : ℕ) (bs : List ℕ) (n j : ℕ) → place_of bs n ≤ length bs → n ≤ j → j < seen m bs n → place_of bs j ≤ length bs

@@ -9,4 +9,5 @@ pub mod Writing
 pub mod Back
 pub mod Refused
 pub mod Aside
+pub mod Walks
 pub mod Again

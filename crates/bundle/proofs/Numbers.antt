@@ -1,12 +1,17 @@
 -- Numbers in bytes, the high byte first.
-use Rattle.std.proofs.Common.{◌≡◌, ℕ, ◌+◌, ◌*◌, ◌/◌, ◌%◌, ◌<◌, List, [], ◌∷◌, ◌++◌, arith}
+use Rattle.std.proofs.Common.{◌≡◌, ℕ, ◌+◌, ◌*◌, ◌/◌, ◌%◌, ◌<◌, List, [], ◌∷◌, ◌++◌, take, refl, arith}
 use Rattle.bundle.specs.Layout.{in_two, in_four, two, four}
-
-pub two_back : (n : ℕ) (t : List ℕ) → two (in_two n ++ t) ≡ n
-two_back n t = omega arith
 
 pub four_back : (n : ℕ) (t : List ℕ) → four (in_four n ++ t) ≡ n
 four_back n t = omega arith
+
+-- the first four bytes decide
+pub four_taken : (t xs : List ℕ) → xs ≡ take 4 t → four xs ≡ four t
+four_taken [] xs e = rw e refl
+four_taken (a ∷ []) xs e = rw e refl
+four_taken (a ∷ b ∷ []) xs e = rw e refl
+four_taken (a ∷ b ∷ c ∷ []) xs e = rw e refl
+four_taken (a ∷ b ∷ c ∷ d ∷ t) xs e = rw e refl
 
 pub in_two_back : (a b : ℕ) (t : List ℕ) → b < 256 → in_two (two (a ∷ b ∷ t)) ≡ a ∷ b ∷ []
 in_two_back a b t k =

@@ -1,10 +1,10 @@
 -- What holds of the pairs that an opening gives.
 use Rattle.std.proofs.Common.{◌≡◌, ℕ, ◌+◌, ◌<◌, ◌≤◌, true, List, [], length, get_or, take, drop, Ok, Err, Result, sym, refl, ap, ◌∙◌, subst, ⊎_elim, zero-le, zero-add, arith}
-use Rattle.std.proofs.lemmas.List.{get_or_past, drop-drop}
+use Rattle.std.proofs.lemmas.List.{drop-drop}
 use Rattle.std.proofs.lemmas.Bool.{cases_lt, cases_Bool}
-use Rattle.store.specs.Pairs.{Pair, nothing, path_at, body_at}
+use Rattle.store.specs.Pairs.{Pair, nothing, Lawful, path_at, body_at}
 use Rattle.bundle.specs.declared.rules.Refusal.{Refusal}
-use Rattle.bundle.specs.Layout.{headed, count_of, reading, checked, told, opened, pairs_in, path_of, body_of, pair_of, place_of, from_record, path_place, path_length, body_place, body_length, first_pairs}
+use Rattle.bundle.specs.Layout.{headed, count_of, reading, checked, told, opened, pairs_in, path_of, pair_of, place_of, from_record, path_place, path_length, body_place, body_length, first_pairs}
 use Rattle.bundle.proofs.Parts.{body_lies}
 use Rattle.bundle.proofs.Front.{headed_there, headed_long, checked_long, checked_head, checked_many, checked_records}
 use Rattle.bundle.proofs.Steps.{length_first, first_at, fit_none}
@@ -63,45 +63,52 @@ pub opens : (bs : List ℕ) → Opens bs (opened bs)
 unfolding opened
 opens bs = opens_by bs (checked bs) refl
 
--- What a check tells.
-told_ok : (x : Result (List Pair) Refusal) → Ok tt ≡ told x → (ps : List Pair) × (x ≡ Ok ps)
+-- Of what a check tells.
+told_ok : (x : Result (List Pair) Refusal) → told x ≡ Ok tt → (ps : List Pair) × (x ≡ Ok ps)
 told_ok (Ok ps) e = (ps, refl)
 told_ok (Err d) e = let z : ◌≡◌ {A = ℕ} 0 1 = cc in absurd (omega arith)
 
-pub told_count : (bs : List ℕ) → Ok tt ≡ told (checked bs) → (7 ≤ length bs) × (length (opened bs) ≡ count_of bs)
-unfolding opened
-told_count bs e =
-    let w = told_ok (checked bs) e in
-    let a = accepted bs w.0 w.1 in
-    (headed_long bs _ (headed_there bs a.front), ap (λ (x : Result (List Pair) Refusal). length (pairs_in x)) w.1 ∙ accepted_count bs w.0 a)
-
-told_err : (x : Result (List Pair) Refusal) (d : Refusal) → Err d ≡ told x → length (pairs_in x) ≡ 0
+pub told_err : (x : Result (List Pair) Refusal) (d : Refusal) → told x ≡ Err d → x ≡ Err d
 told_err (Ok ps) d e = let z : ◌≡◌ {A = ℕ} 0 1 = cc in absurd (omega arith)
-told_err (Err d) f e = refl
+told_err (Err d) f e = let same : d ≡ f = cc in ap Err same
 
-pub told_none : (bs : List ℕ) (d : Refusal) → Err d ≡ told (checked bs) → length (opened bs) ≡ 0
-unfolding opened
-told_none bs d e = told_err (checked bs) d e
+-- a reading that ends well gives the pairs of its records
+pub told_pairs : (bs : List ℕ) (count : ℕ) → 7 ≤ length bs → told (reading count [] (drop 7 bs) 7) ≡ Ok tt → reading count [] (drop 7 bs) 7 ≡ Ok (first_pairs bs count)
+unfolding first_pairs
+told_pairs bs count long e =
+    let w = told_ok (reading count [] (drop 7 bs) 7) e in
+    let p = (reading_walked count bs 0 w.0 w.1 long (fit_none bs)).pairs in
+    w.1 ∙ ap Ok (p ∙ ap (first_pairs bs) (zero-add count))
 
 -- The parts of a pair, by the place of its record.
 pair_there : (bs : List ℕ) (n : ℕ) → n < length (opened bs) → get_or (opened bs) n nothing ≡ pair_of (from_record bs n)
 pair_there bs n h = ap (λ (ps : List Pair). get_or ps n nothing) (opens bs).walked.pairs ∙ first_at bs (length (opened bs)) n h
 
-pub path_there : (bs : List ℕ) (n : ℕ) → n < length (opened bs) → path_at (opened bs) n ≡ path_of (from_record bs n)
-path_there bs n h = ap (λ (q : Pair). q.path) (pair_there bs n h)
-
-pub body_there : (bs : List ℕ) (n : ℕ) → n < length (opened bs) → body_at (opened bs) n ≡ body_of (from_record bs n)
-body_there bs n h = ap (λ (q : Pair). q.body) (pair_there bs n h)
-
-pub path_past : (bs : List ℕ) (n : ℕ) → length (opened bs) ≤ n → path_at (opened bs) n ≡ []
-path_past bs n h = ap (λ (q : Pair). q.path) (get_or_past (opened bs) n nothing h)
-
-pub body_past : (bs : List ℕ) (n : ℕ) → length (opened bs) ≤ n → body_at (opened bs) n ≡ []
-body_past bs n h = ap (λ (q : Pair). q.body) (get_or_past (opened bs) n nothing h)
-
 pub path_part : (bs : List ℕ) (n : ℕ) → path_of (from_record bs n) ≡ take (path_length bs n) (drop (path_place bs n) bs)
 unfolding path_of
 path_part bs n = ap (take (path_length bs n)) (drop-drop 1 (place_of bs n) bs)
 
-pub body_part : (bs : List ℕ) (n : ℕ) → body_of (from_record bs n) ≡ take (body_length bs n) (drop (body_place bs n) bs)
-body_part bs n = body_lies (from_record bs n) ∙ ap (take (body_length bs n)) (drop-drop (5 + path_length bs n) (place_of bs n) bs)
+-- the path of a pair is a part of the bytes
+pub path_placed : (bs : List ℕ) (n : ℕ) → n < length (opened bs) → path_at (opened bs) n ≡ take (path_length bs n) (drop (path_place bs n) bs)
+path_placed bs n h = ap (λ (q : Pair). q.path) (pair_there bs n h) ∙ path_part bs n
+
+-- and its body
+pub body_placed : (bs : List ℕ) (n : ℕ) → n < length (opened bs) → body_at (opened bs) n ≡ take (body_length bs n) (drop (body_place bs n) bs)
+body_placed bs n h =
+    ap (λ (q : Pair). q.body) (pair_there bs n h)
+    ∙ body_lies (from_record bs n)
+    ∙ ap (take (body_length bs n)) (drop-drop (5 + path_length bs n) (place_of bs n) bs)
+
+-- What the store keeps.
+pub opens_lawful : (bs : List ℕ) → Lawful (opened bs)
+opens_lawful bs =
+    let o = opens bs in
+    record { few = o.few; named = o.sound.named; small = o.sound.small; apart = o.sound.apart }
+
+pub opened_ok : (bs : List ℕ) (ps : List Pair) → checked bs ≡ Ok ps → ps ≡ opened bs
+unfolding opened
+opened_ok bs ps e = sym (ap pairs_in e)
+
+pub opened_err : (bs : List ℕ) (d : Refusal) → checked bs ≡ Err d → [] ≡ opened bs
+unfolding opened
+opened_err bs d e = sym (ap pairs_in e)

@@ -6,7 +6,7 @@ use Rattle.store.specs.Pairs.{Pair, nothing}
 use Rattle.bundle.specs.declared.rules.Rule.{Rule}
 use Rattle.bundle.specs.declared.rules.Rule.TheVariants.{LeftOver}
 use Rattle.bundle.specs.declared.rules.Refusal.{Refusal}
-use Rattle.bundle.specs.Layout.{pair_of, path_size, extent, fault, unless, refused, reading, place_of, from_record, first_pairs, Fit}
+use Rattle.bundle.specs.Layout.{pair_of, extent, fault, unless, refused, reading, place_of, from_record, first_pairs, Fit}
 use Rattle.bundle.proofs.Parts.{body_none, fault_none}
 
 -- where a record breaks no rule, the reading goes on behind it
@@ -59,15 +59,6 @@ reading_more m bs n e =
 
 pub fit_none : (bs : List ℕ) → Fit bs 0
 fit_none bs k h = absurd (omega arith)
-
--- what a record within the bytes has room for
-pub path_room : (r : List ℕ) → extent r ≤ length r → 1 + path_size r ≤ length r
-unfolding extent
-path_room r h = omega arith
-
--- the rest from a record's place is long enough for the record
-pub record_room : (bs : List ℕ) (n : ℕ) → place_of bs n + extent (from_record bs n) ≤ length bs → extent (from_record bs n) ≤ length (from_record bs n)
-record_room bs n h = rw (length-drop (place_of bs n) bs) (omega arith)
 
 -- a record that breaks no rule lies within the bytes
 pub fault_room : (ps : List Pair) (bs : List ℕ) (p : ℕ) → p ≤ length bs → fault ps (drop p bs) ≡ None → p + extent (drop p bs) ≤ length bs

@@ -161,7 +161,3 @@ body_length bs n = body_size (from_record bs n)
 -- the first n records lie within the bytes
 abbrev pub Fit : List ℕ → ℕ → Type 0
 Fit bs n = (k : ℕ) → k < n → place_of bs k + extent (from_record bs k) ≤ length bs
-
--- a table that holds the places of the first n records
-abbrev pub Placed : List ℕ → List ℕ → ℕ → Type 0
-Placed bs places n = (k : ℕ) → k < n → slice_index places k ≡ place_of bs k

@@ -1,12 +1,13 @@
--- The walk over the records that leaves repeated paths aside, and the rows of the paths that it sees.
-use Rattle.std.specs.Prelude.{◌≡◌, ℕ, zero, suc, ◌+◌, ◌<◌, cond, List, length, Some, None, Ok, Err, Option, Result, nat_lt, slice_index_or}
-use Rattle.std.specs.List.{ContainsAt}
-use Rattle.names.specs.declared.name.Name.{Name}
-use Rattle.names.specs.Repeats.{FirstRepeat}
+-- The walk over the records that leaves repeated paths aside, and the places of the paths that it sees.
+use Rattle.std.specs.Prelude.{◌≡◌, ℕ, zero, suc, ◌+◌, ◌⊎◌, cond, List, [], ◌∷◌, ◌++◌, map, length, take, drop, Some, None, Ok, Err, Option, Result, nat_lt}
+use Rattle.std.specs.List.{range_with_len}
+use Rattle.store.specs.Lent as lent
+use Rattle.store.specs.declared.pairs.Pair.{Pair}
+use Rattle.names.specs.declared.span.Span.{Span}
 use Rattle.bundle.specs.declared.rules.Rule.{Rule}
-use Rattle.bundle.specs.declared.rules.Rule.TheVariants.{LeftOver}
+use Rattle.bundle.specs.declared.rules.Rule.TheVariants.{CutShort, LongBody, LeftOver}
 use Rattle.bundle.specs.declared.rules.Refusal.{Refusal}
-use Rattle.bundle.specs.Layout.{path_fault, body_fault, or_else, place_of, from_record, path_length}
+use Rattle.bundle.specs.Layout.{four, path_size, path_fault, body_fault, pair_of, extent, or_else, place_of, from_record, path_length}
 
 abbrev pub stopped : {A : Type 0} → Option Rule → A → A → A
 stopped None stop on = on
@@ -31,24 +32,40 @@ tells zero bs n = ending bs (place_of bs n)
 tells (suc m) bs n = halted (or_else (path_fault (from_record bs n)) (body_fault (from_record bs n))) (place_of bs n) (tells m bs (n + 1))
 
 -- the path of record number k: behind its length byte, up to its end
-abbrev pub row_at : List ℕ → ℕ → Name
+abbrev pub row_at : List ℕ → ℕ → Span
 row_at bs k = record { start = place_of bs k; end = place_of bs k + (1 + path_length bs k) }
 
-abbrev pub blank : Name
-blank = record { start = 0; end = 0 }
+-- the path of the record r that stands at the place p
+abbrev pub row_from : List ℕ → ℕ → Span
+row_from r p = record { start = p; end = p + (1 + path_size r) }
 
--- the first n rows are those of the first n records
-abbrev pub Rowed : List ℕ → List Name → ℕ → Type 0
-Rowed bs rows n = (k : ℕ) → k < n → slice_index_or rows k blank ≡ row_at bs k
+-- r begins with a record that breaks no rule, met paths aside: its pair, the bytes behind it, and its path noted
+pub record Cuts (r : List ℕ) (p : ℕ) (old new : List Span) (pair : Pair) (behind : List ℕ) : Type 0 where
+  pub path : path_fault r ≡ None
+  pub body : body_fault r ≡ None
+  pub noted : new ≡ old ++ row_from r p ∷ []
+  pub means : lent.pair_of pair ≡ pair_of r
+  pub rest : behind ≡ drop (extent r) r
 
--- a row ends at e and starts at p
-pub record Spans (rows : List Name) (e p : ℕ) : Type 0 where
-  pub row : Name
-  pub there : ContainsAt rows row
-  pub ends : row.end ≡ e
-  pub starts : row.start ≡ p
+-- r breaks a rule with its path, which is not noted, or with its body
+abbrev pub EndsAt : List ℕ → ℕ → List Span → List Span → Rule → Type 0
+EndsAt r p old new rule =
+    ((path_fault r ≡ Some rule) × (new ≡ old)) ⊎ ((path_fault r ≡ None) × (body_fault r ≡ Some rule) × (new ≡ old ++ row_from r p ∷ []))
 
--- the start of the first row that repeats an earlier one
-abbrev pub FirstStart : List ℕ → List Name → Option ℕ → Type 0
-FirstStart s rows None = FirstRepeat s rows None
-FirstStart s rows (Some p) = (q : ℕ) × FirstRepeat s rows (Some q) × Spans rows q p
+-- those of the first n records
+unfoldable pub rows_of : List ℕ → ℕ → List Span
+rows_of bs n = map (row_at bs) (range_with_len 0 n)
+
+-- A record is read in two steps: behind the path stand the body's length, the body, and the bytes behind it.
+unfoldable pub body_after : List ℕ → List ℕ
+body_after t = take (four t) (drop 4 t)
+
+unfoldable pub behind_body : List ℕ → List ℕ
+behind_body t = drop (four t) (drop 4 t)
+
+-- the rule of bodies that is broken there
+unfoldable pub body_fault_after : List ℕ → Option Rule
+body_fault_after t =
+    cond (nat_lt (length t) 4) (Some CutShort)
+    (cond (nat_lt 1048576 (four t)) (Some LongBody)
+    (cond (nat_lt (length t) (4 + four t)) (Some CutShort) None))

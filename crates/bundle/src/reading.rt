@@ -1,16 +1,22 @@
-// The check of a whole bundle.
-ghost use Rattle.std.specs.Prelude.{◌≡◌, ℕ, ◌<◌, ◌≤◌, [], length, drop, MatchOption};
+//! The check of a whole bundle, and the pairs of one that passes.
+ghost use Rattle.std.specs.Prelude.{◌≡◌, ℕ, ◌≤◌, [], length, drop, Ok, Err, IfOk, IfErr, MatchOption};
+ghost use Rattle.store.specs.Lent.{pairs_of};
 ghost use Rattle.bundle.specs.Layout.{is_head, Headed, reading, checked, told};
 ghost use Rattle.bundle.specs.Laws.{ReadsWritten, OneWriting, FirstRule, Shortest};
 
 use super::rules::{Refusal, Rule};
-use super::walk::{Walk, repeated_start, walk_records};
+use super::walk::walk;
+use super::{FRONT_BYTES, MARK, MAX_BYTES, VERSION};
+use arrayvec::ArrayVec;
+use names::first_repeat;
+use store::MAX_PAIRS;
+use store::pairs::Pair;
 
 // Whether these are the mark and the version of a bundle.
 fn is_head(mark: [u8; 3], version: [u8; 2]) -> bool
     ensures { result ≡ is_head mark version }
 {
-    mark[0] == b'C' && mark[1] == b'A' && mark[2] == b'P' && version[0] == 0 && version[1] == 1
+    mark == MARK && version == VERSION
 }
 
 // The count behind the head, or none under seven bytes or at another head.
@@ -29,32 +35,31 @@ fn counted(bytes: &[u8]) -> Option<usize>
     Some(u16::from_be_bytes([*high, *low]) as usize)
 }
 
-// The first broken rule of the records. A path repeated among those that the walk has seen comes before what the walk met at last.
-fn check_records(bytes: &[u8], count: usize) -> Result<(), Refusal>
-    requires long { 7 ≤ length bytes.now }
-    requires short { length bytes.now ≤ 16777216 }
-    requires few { count ≤ 1024 }
-    ensures { result ≡ told (reading count [] (drop 7 bytes.now) 7) }
+// The pairs of the records, or the first broken rule. A path repeated among those that the walk has seen comes before what the walk met at last.
+fn read_records(bytes: &[u8], count: usize) -> Result<ArrayVec<Pair<'_>, MAX_PAIRS>, Refusal>
+    requires long { FRONT_BYTES ≤ length bytes.now }
+    requires short { length bytes.now ≤ MAX_BYTES }
+    requires few { count ≤ MAX_PAIRS }
+    ensures ok { IfOk result (λ pairs. reading count [] (drop FRONT_BYTES bytes.now) FRONT_BYTES ≡ Ok (pairs_of pairs.items)) }
+    ensures err { IfErr result (λ refusal. reading count [] (drop FRONT_BYTES bytes.now) FRONT_BYTES ≡ Err refusal) }
 {
-    let Walk {
-        mut rows,
-        filled,
-        end,
-    } = walk_records(bytes, count);
-    match repeated_start(bytes, &mut rows[0..filled]) {
-        Some(place) => Err(Refusal {
+    let mut paths = ArrayVec::new();
+    let pairs = walk(bytes, count, &mut paths);
+    match first_repeat(bytes, paths.as_mut_slice()) {
+        Some(path) => Err(Refusal {
             rule: Rule::RepeatedPath,
-            place,
+            place: path.start as usize,
         }),
-        None => end,
+        None => pairs,
     }
 }
 
-// The first broken rule with its place, if one is broken.
-pub(crate) fn first_refusal(bytes: &[u8]) -> Result<(), Refusal>
-    ensures { result ≡ told (checked bytes.now) }
+// The pairs of a bundle, or the first broken rule with its place.
+pub(crate) fn read(bytes: &[u8]) -> Result<ArrayVec<Pair<'_>, MAX_PAIRS>, Refusal>
+    ensures ok { IfOk result (λ pairs. checked bytes.now ≡ Ok (pairs_of pairs.items)) }
+    ensures err { IfErr result (λ refusal. checked bytes.now ≡ Err refusal) }
 {
-    if bytes.len() > 16777216 {
+    if bytes.len() > MAX_BYTES {
         return Err(Refusal {
             rule: Rule::TooLong,
             place: 0,
@@ -66,16 +71,16 @@ pub(crate) fn first_refusal(bytes: &[u8]) -> Result<(), Refusal>
             place: 0,
         });
     };
-    if count > 1024 {
+    if count > MAX_PAIRS {
         return Err(Refusal {
             rule: Rule::TooMany,
             place: 0,
         });
     }
-    check_records(bytes, count)
+    read_records(bytes, count)
 }
 
-// Whether the bytes are a bundle, or else the first broken rule with its place.
+/// Whether the bytes are a bundle, or else the first broken rule with its place.
 pub fn check(bytes: &[u8]) -> Result<(), Refusal>
     ensures told { result ≡ told (checked bytes.now) }
     ensures written { ReadsWritten }
@@ -83,5 +88,5 @@ pub fn check(bytes: &[u8]) -> Result<(), Refusal>
     ensures first { FirstRule }
     ensures shortest { Shortest }
 {
-    first_refusal(bytes)
+    read(bytes).map(|_| ())
 }

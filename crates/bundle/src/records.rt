@@ -1,100 +1,44 @@
-// One record: its parts, and the rule that it breaks.
-ghost use Rattle.std.specs.Prelude.{◌≡◌, ◌+◌, ◌≤◌, length, drop};
-ghost use Rattle.bundle.specs.Layout.{path_size, path_of, behind_path, four, body_size, body_of, extent, path_fault, body_fault};
+//! A record taken apart: its path, then its body.
+ghost use Rattle.std.specs.Prelude.{◌≡◌, None, Some, IfOk, IfErr};
+ghost use Rattle.bundle.specs.Layout.{path_of, behind_path, path_fault};
+ghost use Rattle.bundle.specs.Rows.{body_after, behind_body, body_fault_after};
 
 use super::rules::Rule;
+use store::MAX_BODY_BYTES;
 use store::paths::is_path;
 
-// The bytes from a place on.
-pub(crate) fn rest_from(bytes: &[u8], place: usize) -> &[u8]
-    requires { place ≤ length bytes.now }
-    ensures { result.now ≡ drop place bytes.now }
+// The path that a record begins with, behind its length byte, and the bytes behind it.
+pub(crate) fn split_path(bytes: &[u8]) -> Result<(&[u8], &[u8]), Rule>
+    ensures ok { IfOk result (λ parts. (path_fault bytes.now ≡ None) × (parts.0.now ≡ path_of bytes.now) × (parts.1.now ≡ behind_path bytes.now)) }
+    ensures err { IfErr result (λ rule. path_fault bytes.now ≡ Some rule) }
 {
-    &bytes[place..]
-}
-
-// The path of the record that `rest` begins with.
-pub(crate) fn path(rest: &[u8]) -> &[u8]
-    requires { 1 + path_size rest.now ≤ length rest.now }
-    ensures { result.now ≡ path_of rest.now }
-{
-    &rest[1..1 + rest[0] as usize]
-}
-
-// The bytes behind the path.
-fn behind_path(rest: &[u8]) -> &[u8]
-    requires { 1 + path_size rest.now ≤ length rest.now }
-    ensures { result.now ≡ behind_path rest.now }
-{
-    &rest[1 + rest[0] as usize..]
-}
-
-// The number in the first four bytes, the high byte first.
-fn four(bytes: &[u8]) -> usize
-    requires { 4 ≤ length bytes.now }
-    ensures { result ≡ four bytes.now }
-{
-    u32::from_be_bytes([bytes[0], bytes[1], bytes[2], bytes[3]]) as usize
-}
-
-// The length that the record gives its body.
-fn body_size(rest: &[u8]) -> usize
-    requires { 5 + path_size rest.now ≤ length rest.now }
-    ensures { result ≡ body_size rest.now }
-{
-    four(behind_path(rest))
-}
-
-// How long the whole record is.
-pub(crate) fn extent(rest: &[u8]) -> usize
-    requires { extent rest.now ≤ length rest.now }
-    ensures { result ≡ extent rest.now }
-{
-    5 + rest[0] as usize + body_size(rest)
-}
-
-// The body of the record.
-pub(crate) fn body(rest: &[u8]) -> &[u8]
-    requires { extent rest.now ≤ length rest.now }
-    ensures { result.now ≡ body_of rest.now }
-{
-    let start = 5 + rest[0] as usize;
-    &rest[start..start + body_size(rest)]
-}
-
-// The first rule of paths that the record breaks, met paths aside.
-pub(crate) fn path_fault(rest: &[u8]) -> Option<Rule>
-    ensures { result ≡ path_fault rest.now }
-{
-    if rest.len() == 0 {
-        return Some(Rule::CutShort);
-    }
-    if rest.len() <= rest[0] as usize {
-        return Some(Rule::CutShort);
-    }
-    if is_path(path(rest)) {
-        None
+    let Some((length, rest)) = bytes.split_first() else {
+        return Err(Rule::CutShort);
+    };
+    let Some((path, behind)) = rest.split_at_checked(*length as usize) else {
+        return Err(Rule::CutShort);
+    };
+    if is_path(path) {
+        Ok((path, behind))
     } else {
-        Some(Rule::UnlawfulPath)
+        Err(Rule::UnlawfulPath)
     }
 }
 
-// The first rule of bodies that the record breaks.
-pub(crate) fn body_fault(rest: &[u8]) -> Option<Rule>
-    requires { 1 + path_size rest.now ≤ length rest.now }
-    ensures { result ≡ body_fault rest.now }
+// The body that stands behind a path and its own length in four bytes, the high byte first, and the bytes behind it.
+pub(crate) fn split_body(behind_path: &[u8]) -> Result<(&[u8], &[u8]), Rule>
+    ensures ok { IfOk result (λ parts. (body_fault_after behind_path.now ≡ None) × (parts.0.now ≡ body_after behind_path.now) × (parts.1.now ≡ behind_body behind_path.now)) }
+    ensures err { IfErr result (λ rule. body_fault_after behind_path.now ≡ Some rule) }
 {
-    let left = rest.len() - 1 - rest[0] as usize;
-    if left < 4 {
-        return Some(Rule::CutShort);
+    let Some((length, rest)) = behind_path.split_first_chunk::<4>() else {
+        return Err(Rule::CutShort);
+    };
+    let length = u32::from_be_bytes(*length) as usize;
+    if length > MAX_BODY_BYTES {
+        return Err(Rule::LongBody);
     }
-    let size = body_size(rest);
-    if size > 1048576 {
-        return Some(Rule::LongBody);
-    }
-    if left - 4 < size {
-        Some(Rule::CutShort)
-    } else {
-        None
-    }
+    let Some((body, behind)) = rest.split_at_checked(length) else {
+        return Err(Rule::CutShort);
+    };
+    Ok((body, behind))
 }

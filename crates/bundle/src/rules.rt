@@ -1,27 +1,33 @@
-// The rules of a bundle, and what a check refuses.
+//! The rules of a bundle, and what a check refuses.
 ghost use Rattle.std.specs.Prelude.{◌≡◌};
-ghost use Rattle.bundle.specs.Rules.{number};
+ghost use Rattle.bundle.specs.Rules.{number, telling};
 
+use refused::Refused;
+
+/// What a bundle is refused for.
 #[derive(Clone, Copy, Debug, PartialEq, Eq)]
 pub enum Rule {
-    // over 16,777,216 bytes
+    /// Over 16,777,216 bytes.
     TooLong = 1,
-    // under seven bytes, or another mark or version
+    /// Under seven bytes, or another mark or version.
     Head = 2,
-    // a count over 1,024
+    /// A count over 1,024.
     TooMany = 3,
-    // the bytes end inside a record
+    /// The bytes end inside a record.
     CutShort = 4,
+    /// A path that breaks the rules of paths.
     UnlawfulPath = 5,
-    // an earlier record has the path
+    /// An earlier record has the path.
     RepeatedPath = 6,
-    // a body over 1,048,576 bytes
+    /// A body over 1,048,576 bytes.
     LongBody = 7,
-    // bytes behind the last record
+    /// Bytes behind the last record.
     LeftOver = 8,
 }
 
 impl Rule {
+    /// The number by which the rule is told.
+    // a method of the rules' word: what is told is a number, and the clauses name it
     pub fn number(self) -> u8
         ensures { result ≡ number self }
     {
@@ -29,9 +35,23 @@ impl Rule {
     }
 }
 
-// The broken rule, and the place of the record that breaks it, or of the first byte left over, or 0.
+/// Why bytes are not a bundle.
 #[derive(Clone, Copy, Debug, PartialEq, Eq)]
 pub struct Refusal {
+    /// The broken rule.
     pub rule: Rule,
+    /// The place of the record that breaks it, or of the first byte left over, or 0.
     pub place: usize,
+}
+
+impl From<Refusal> for Refused {
+    ghost from_gives = { λ e r. r ≡ telling e };
+
+    fn from(refusal: Refusal) -> Refused {
+        Refused {
+            number: refusal.rule.number(),
+            cause: 0,
+            place: refusal.place,
+        }
+    }
 }

@@ -1,82 +1,46 @@
-// A bundle as a store: the bytes, and where each record begins.
-ghost use Rattle.std.specs.Prelude.{◌≡◌, ◌+◌, ◌<◌, ◌≤◌, length, take, drop};
-ghost use Rattle.store.specs.Pairs.{Few, Named, Small, Apart, path_at, body_at};
-ghost use Rattle.bundle.specs.Layout.{opened, extent, from_record, path_place, path_length, body_place, body_length, Placed, Fit};
+//! A bundle as a store: the bytes, and the pairs cut from them.
+ghost use Rattle.std.specs.Prelude.{◌≡◌, ◌<◌, length, take, drop, slice_index_or};
+ghost use Rattle.store.specs.Pairs.{Lawful, nothing, path_at, body_at};
+ghost use Rattle.store.specs.Lent.{pair_of, pairs_of};
+ghost use Rattle.bundle.specs.Layout.{opened, path_place, path_length, body_place, body_length};
 
-use super::reading::first_refusal;
-use super::records::{body, extent, path, rest_from};
-use store::{Search, Store};
+use super::reading::read;
+use arrayvec::ArrayVec;
+use store::pairs::Pair;
+use store::{MAX_PAIRS, Search, Store};
 
+/// The store over the bytes of a bundle.
 #[derive(Drop)]
 pub struct Bundle<'a> {
     bytes: &'a [u8],
-    places: [u32; 1024],
-    count: usize,
-    ghost counted: { count ≡ length (opened bytes.now) },
-    ghost placed: { Placed bytes.now places count },
-    ghost few: { Few (opened bytes.now) },
-    ghost named: { Named (opened bytes.now) },
-    ghost small: { Small (opened bytes.now) },
-    ghost apart: { Apart (opened bytes.now) },
-}
-
-// How many pairs there are: the count, or none where the check refuses.
-fn pair_count(bytes: &[u8]) -> usize
-    ensures { result ≡ length (opened bytes.now) }
-{
-    match first_refusal(bytes) {
-        Ok(()) => u16::from_be_bytes([bytes[5], bytes[6]]) as usize,
-        Err(_) => 0,
-    }
-}
-
-// Where the first `count` records begin.
-fn table(bytes: &[u8], count: usize) -> [u32; 1024]
-    requires few { count ≤ 1024 }
-    requires fits { Fit bytes.now count }
-    requires short { 0 < count → length bytes.now ≤ 16777216 }
-    ensures { Placed bytes.now result count }
-{
-    let mut places = [0; 1024];
-    let mut place = 7;
-    for n in 0..count {
-        places[n] = place as u32;
-        place += extent(rest_from(bytes, place));
-    }
-    places
+    pairs: ArrayVec<Pair<'a>, MAX_PAIRS>,
+    ghost cut: { pairs_of pairs.items ≡ opened bytes.now },
+    ghost lawful: { Lawful (opened bytes.now) },
 }
 
 impl<'a> Bundle<'a> {
-    // The store over the bytes. Bytes that the check refuses are the store with no pairs.
+    /// The store over the bytes. Bytes that the check refuses are the store with no pairs.
     pub fn open(bytes: &'a [u8]) -> Bundle<'a>
-        ensures { opened result.bytes.now ≡ opened bytes.now }
+        ensures same { result.bytes.now ≡ bytes.now }
+        ensures pairs { opened result.bytes.now ≡ opened bytes.now }
     {
-        let count = pair_count(bytes);
-        let places = table(bytes, count);
-        Bundle {
-            bytes,
-            places,
-            count,
-        }
+        let pairs = read(bytes).unwrap_or_default();
+        Bundle { bytes, pairs }
     }
 
-    // The bytes from record number `n` on.
-    fn rest_at(&self, n: usize) -> &[u8]
-        requires { n < self.now.count }
-        ensures from { result.now ≡ from_record self.now.bytes.now n }
-        ensures whole { extent result.now ≤ length result.now }
+    // Pair number `n`, past the end the empty pair.
+    fn pair(&self, n: usize) -> Pair<'_>
+        ensures { pair_of result ≡ slice_index_or (opened self.now.bytes.now) n nothing }
     {
-        rest_from(self.bytes, self.places[n] as usize)
+        self.pairs.get(n).copied().unwrap_or_default()
     }
 }
 
 impl<'a> Store for Bundle<'a> {
     ghost pairs = { λ b. opened b.bytes.now };
 
-    ghost lawful = { λ b. record { few = b.few; named = b.named; small = b.small; apart = b.apart } };
-
     fn count(&self) -> usize {
-        self.count
+        self.pairs.len()
     }
 
     // A part of the bytes: the one that follows the length byte of record number `n`.
@@ -84,11 +48,7 @@ impl<'a> Store for Bundle<'a> {
         ensures contents { result.now ≡ path_at (opened self.now.bytes.now) n }
         ensures place { n < length (opened self.now.bytes.now) → result.now ≡ take (path_length self.now.bytes.now n) (drop (path_place self.now.bytes.now n) self.now.bytes.now) }
     {
-        if n < self.count {
-            path(self.rest_at(n))
-        } else {
-            &[]
-        }
+        self.pair(n).path
     }
 
     // A part of the bytes: the last one of record number `n`.
@@ -96,12 +56,10 @@ impl<'a> Store for Bundle<'a> {
         ensures contents { result.now ≡ body_at (opened self.now.bytes.now) n }
         ensures place { n < length (opened self.now.bytes.now) → result.now ≡ take (body_length self.now.bytes.now n) (drop (body_place self.now.bytes.now n) self.now.bytes.now) }
     {
-        if n < self.count {
-            body(self.rest_at(n))
-        } else {
-            &[]
-        }
+        self.pair(n).body
     }
+
+    ghost lawful = { λ b. b.lawful };
 }
 
 impl<'a> Search for Bundle<'a> {}

@@ -1,24 +1,21 @@
 // Conditions.
-ghost use Rattle.std.specs.Prelude.{◌≡◌, not, ◌&&◌, ◌||◌, is_some};
-ghost use Rattle.syntax.specs.Walking.{rest_members, find};
-ghost use Rattle.requirement.specs.Check.{alike, presence as presence_of, comparing as comparing_of, condition_fits, condition_member, condition as lawful_condition, array};
-ghost use Rattle.terms.specs.Places.{value_here, member_here};
+ghost use Rattle.std.specs.Prelude.{◌≡◌};
+ghost use Rattle.requirement.specs.Check.{presence as presence_of, comparing as comparing_of, test_fits, condition_fits, condition_member, condition as condition_checked, array as array_of};
+ghost use Rattle.walk.specs.Told.{spelled, members_left};
 
-use crate::arrays::{few, names, values};
 use crate::comparison::{common_part, comparison_fits, fits};
-use crate::single::{Check, property, test, unlawful};
+use crate::lists::{names, values};
+use crate::rules::{MemberRule, ObjectRule, Rule, array, object};
+use crate::single::{Check, property, test};
 use requirement::{ConditionMember, Operator, ProfileFault, TestWord};
-use terms::{condition_name, get, item, items, member, members, stated_test};
-use walk::{Member, letters};
+use terms::{ConditionNames, Words, stated_test};
+use walk::{Member, Members, Value};
 
 // Whether a test only asks if its property is there.
 fn presence(word: Option<TestWord>) -> bool
     ensures { result ≡ presence_of word }
 {
-    match word {
-        Some(TestWord::Present | TestWord::Absent) => true,
-        Some(TestWord::By(_)) | None => false,
-    }
+    matches!(word, Some(TestWord::Present | TestWord::Absent))
 }
 
 // The operator of a test that compares.
@@ -31,94 +28,86 @@ fn comparing(word: Option<TestWord>) -> Option<Operator>
     }
 }
 
-// Whether a member of that name stands among those to come.
-fn states(text: &[u8], first: Option<usize>, name: &[u8]) -> bool
-    ensures { result ≡ is_some (find name.now (rest_members text.now first)) }
+// Whether the operator of a condition's test has values, and takes them.
+fn test_fits(members: Members) -> bool
+    ensures { result ≡ test_fits (members_left members.entry) }
 {
-    get(text, first, name).is_some()
+    fits(
+        comparing(stated_test(members)),
+        members.get(b"CompareValues"),
+    )
 }
 
-// A condition has a test; `CompareProperty` and `CompareType` stand together; no `CompareValues` stands without `CompareType`; operators have
-// values that they take.
-fn sound(
-    under: bool,
-    property: bool,
-    kind: bool,
-    values: bool,
-    tested: bool,
-    compared: bool,
-) -> bool
-    ensures { result ≡ ((under || property) && alike property kind && (not values || kind) && tested && compared) }
+// A condition has a test of a property, or asks for a resource above, or both; `CompareProperty` and `CompareType` stand together, and no
+// `CompareValues` without `CompareType`; operators have values that they take.
+fn condition_fits(members: Members) -> bool
+    ensures { result ≡ condition_fits (members_left members.entry) }
 {
-    (under || property) && property == kind && (!values || kind) && tested && compared
-}
-
-// The same of a condition's members.
-fn condition_fits(text: &[u8], first: Option<usize>) -> bool
-    ensures { result ≡ condition_fits (rest_members text.now first) }
-{
-    let under = states(text, first, b"SubordinateToResource");
-    let property = states(text, first, b"CompareProperty");
-    let kind = states(text, first, b"CompareType");
-    let values = states(text, first, b"CompareValues");
-    let tested = fits(
-        text,
-        comparing(stated_test(text, first)),
-        get(text, first, b"CompareValues"),
-    );
-    let compared = comparison_fits(text, first);
-    sound(under, property, kind, values, tested, compared)
-}
-
-// One member of a condition; `CompareValues` may be skipped.
-fn part(text: &[u8], skip: bool, m: Member) -> Check
-    ensures { result ≡ condition_member skip (member_here text.now m) }
-{
-    let at = m.value.start;
-    match condition_name(letters(text, m.name)) {
-        Some(ConditionMember::SubordinateToResource) => names(text, at),
-        Some(ConditionMember::CompareProperty) => property(text, at),
-        Some(ConditionMember::CompareType) => test(text, at),
-        Some(ConditionMember::CompareValues) => { if skip { Ok(()) } else { values(text, at) } }
-        Some(ConditionMember::Common(common)) => common_part(text, common, at),
-        None => Err(ProfileFault::Unnamed(m.name.start)),
+    match (members.get(b"CompareProperty"), members.get(b"CompareType")) {
+        (Some(_), Some(_)) => test_fits(members) && comparison_fits(members),
+        (None, None) => {
+            members.get(b"SubordinateToResource").is_some()
+                && members.get(b"CompareValues").is_none()
+                && comparison_fits(members)
+        }
+        _ => false,
     }
 }
 
-// A condition.
-pub fn condition(text: &[u8], at: usize) -> Check
-    ensures { result ≡ lawful_condition (value_here text.now at) }
-{
-    let Some(first) = members(text, at) else {
-        return Err(unlawful(text, at));
-    };
-    let skip = presence(stated_test(text, Some(first)));
-    let mut next = Some(first);
-    while let Some(m) = member(text, next) {
-        part(text, skip, m)?;
-        next = m.next;
-    }
-    if condition_fits(text, Some(first)) {
-        Ok(())
-    } else {
-        Err(unlawful(text, at))
+// The members of a condition; `CompareValues` may be skipped.
+#[derive(Clone, Copy)]
+struct ConditionMembers {
+    // whether `CompareValues` is passed over; a flag with no value beside it
+    skip: bool,
+}
+
+impl MemberRule for ConditionMembers {
+    ghost member_checked = { λ r. condition_member r.skip };
+
+    fn check_member(&self, member: Member) -> Check {
+        let value = member.value;
+        match ConditionNames::meaning(member.name.bytes) {
+            Some(ConditionMember::SubordinateToResource) => names(value),
+            Some(ConditionMember::CompareProperty) => property(value),
+            Some(ConditionMember::CompareType) => test(value),
+            Some(ConditionMember::CompareValues) if self.skip => Ok(()),
+            Some(ConditionMember::CompareValues) => values(value),
+            Some(ConditionMember::Common(common)) => common_part(common, value),
+            None => Err(ProfileFault::Unnamed(member.name.place)),
+        }
     }
 }
 
-// At most sixteen conditions.
-pub fn conditions(text: &[u8], at: usize) -> Check
-    ensures { result ≡ array 0 16 lawful_condition (value_here text.now at) }
+impl ObjectRule for ConditionMembers {
+    ghost whole_fits = { λ _. condition_fits };
+
+    fn fits(&self, members: Members) -> bool {
+        condition_fits(members)
+    }
+}
+
+/// A condition.
+pub fn condition(value: Value) -> Check
+    ensures { result ≡ condition_checked (spelled value.entry) }
 {
-    let Some(first) = items(text, at) else {
-        return Err(unlawful(text, at));
-    };
-    if !few(text, Some(first), 0, 16) {
-        return Err(unlawful(text, at));
+    let skip = presence(stated_test(value.members_or_none()));
+    object(&ConditionMembers { skip }, value)
+}
+
+#[derive(Clone, Copy)]
+struct ConditionRule;
+
+impl Rule for ConditionRule {
+    ghost checked = { λ _. condition_checked };
+
+    fn check(&self, value: Value) -> Check {
+        condition(value)
     }
-    let mut next = Some(first);
-    while let Some(i) = item(text, next) {
-        condition(text, i.value.start)?;
-        next = i.next;
-    }
-    Ok(())
+}
+
+/// At most sixteen conditions.
+pub fn conditions(value: Value) -> Check
+    ensures { result ≡ array_of 0 16 condition_checked (spelled value.entry) }
+{
+    array(&ConditionRule, 0, 16, value)
 }

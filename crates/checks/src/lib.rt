@@ -1,12 +1,14 @@
-// What single values, comparisons and conditions of a profile are refused for, by their places in any text.
+// What single values, comparisons and conditions of a profile are refused for, by their values.
 #![tactic(auto)]
 
-mod arrays;
 mod comparison;
 mod conditional;
+mod lists;
+mod rules;
 mod single;
 
-pub use arrays::{few, names, values};
 pub use comparison::{common_part, comparison_fits};
 pub use conditional::{condition, conditions};
-pub use single::{Check, level, property, unlawful, version};
+pub use lists::{names, values};
+pub use rules::{MemberRule, ObjectRule, Rule, array, members, object};
+pub use single::{Check, few, level, property, sure, unlawful, version};

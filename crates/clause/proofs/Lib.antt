@@ -1,4 +1,2 @@
-pub mod Compared
-pub mod Takes
+pub mod Readings
 pub mod Starts
-pub mod Numbered

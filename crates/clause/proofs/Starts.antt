@@ -1,18 +1,14 @@
--- The clauses from the start on, and those of an accepted profile.
-use Rattle.std.proofs.Common.{◌≡◌, ℕ, List, Some, Ok, Err, Result, refl, ap, ◌∙◌}
+-- The clauses of an accepted profile.
+use Rattle.std.proofs.Common.{◌≡◌, ℕ, List, Ok, Err, Result, refl, ap, ◌∙◌}
 use Rattle.syntax.specs.declared.kinds.Fault.{Fault}
 use Rattle.syntax.specs.Value.{Value}
-use Rattle.syntax.specs.Reading.{reading, value_at}
+use Rattle.syntax.specs.Reading.{reading}
 use Rattle.syntax.proofs.Walks.{walks}
+use Rattle.walk.proofs.Values.{here_some}
 use Rattle.requirement.specs.Clause as r
 use Rattle.requirement.specs.Check.{Check}
 use Rattle.requirement.specs.Reading.{answered, profile_in}
-use Rattle.terms.proofs.AtPlace.{here_some}
 use Rattle.clause.specs.Left.{clauses_of, Accepted}
-
--- the clauses of the value that is read at the beginning
-pub clauses_read : (s : List ℕ) (v : Value) → value_at s 0 ≡ Some v → clauses_of s ≡ r.clauses v
-clauses_read s v e = ap r.clauses (here_some s 0 v e)
 
 -- what is answered where a check is fine
 answer : {A : Type 0} (k : Check) (a b : A) → answered k a ≡ Ok b → a ≡ b
@@ -24,5 +20,5 @@ pub accepted : (s : List ℕ) → Accepted s
 accepted s cs = by (reading s) refl
   where
     by : (o : Result Value Fault) → reading s ≡ o → profile_in o ≡ Ok cs → clauses_of s ≡ cs
-    by (Ok v) e d = clauses_read s v ((walks s).outermost v e) ∙ answer _ (r.clauses v) cs d
+    by (Ok v) e d = ap r.clauses (here_some s 0 v ((walks s).outermost v e)) ∙ answer _ (r.clauses v) cs d
     by (Err f) e d = cc

@@ -1,121 +1,114 @@
-// What an entry, or a condition, asks, looked up by name among its members, which come from a place on.
+// What an entry, or a condition, asks of a property.
 ghost use Rattle.std.specs.Prelude.{◌≡◌};
-ghost use Rattle.std.specs.Option.{option_map};
-ghost use Rattle.syntax.specs.Walking.{rest_members, rest_items, find as find_in};
-ghost use Rattle.walk.specs.Told.{letters_of};
-ghost use Rattle.requirement.specs.Words.{members as members_of, items as items_of};
-ghost use Rattle.requirement.specs.Clause.{items_in, members_in, properties as properties_of, level_of, count_of, comparison_of, asked_of};
-ghost use Rattle.terms.specs.Places.{value_here};
-ghost use Rattle.clause.specs.Shown.{text_in, comparison_shown, asked_shown};
+ghost use Rattle.std.specs.Option.{option_map, option_copied};
+ghost use Rattle.syntax.specs.Walking.{find as find_in};
+ghost use Rattle.walk.specs.Told.{members_left};
+ghost use Rattle.requirement.specs.Words.{◌of◌, lookup, level_words, count as count_in};
+ghost use Rattle.requirement.specs.Clause.{get, level_of, comparison_of, asked_of};
+ghost use Rattle.clause.specs.Shown.{text_in};
 
-use crate::parts::{Asked, Comparison};
-use grade::Grade;
+use crate::listed::Listed;
+use crate::parts::Scalars;
+use grade::{Grade, Level};
 use requirement::Operator;
-use terms::{get, level_word, stated_operator, string};
-use walk::{Part, letters};
+use terms::{LevelWords, Words, stated_operator};
+use walk::Members;
 
-// Where the members of the object at a place begin, if one is there.
-pub(crate) fn members_at(profile: &[u8], at: usize) -> Option<usize>
-    ensures { members_of (value_here profile.now at) ≡ rest_members profile.now result }
-{
-    terms::members(profile, at)
+/// An operator, and the values that it takes.
+// no Debug and no comparison: either would go through the bytes of the profile
+#[derive(Clone, Copy)]
+pub struct Comparison<'a> {
+    pub operator: Operator,
+    pub values: Scalars<'a>,
 }
 
-// Where the items of the array at a place begin, if one is there.
-pub(crate) fn items_at(profile: &[u8], at: usize) -> Option<usize>
-    ensures { items_of (value_here profile.now at) ≡ rest_items profile.now result }
-{
-    terms::items(profile, at)
+/// What is asked: the grades for what is absent and for what is unmet, the least count, and a comparison.
+// no Debug and no comparison: either would go through the bytes of the profile
+#[derive(Clone, Copy)]
+pub struct Asked<'a> {
+    pub level: Level,
+    pub count: usize,
+    pub comparison: Option<Comparison<'a>>,
 }
+
+// The level and the count that hold where none are stated.
+#[derive(Clone, Copy)]
+pub(crate) struct Unstated {
+    level: Level,
+    count: usize,
+}
+
+impl Unstated {
+    // An entry is mandatory and asks for one.
+    pub(crate) const ENTRY: Unstated = Unstated {
+        level: MANDATORY,
+        count: 1,
+    };
+
+    // A condition asks for nothing.
+    pub(crate) const CONDITION: Unstated = Unstated {
+        level: (Grade::Clear, Grade::Clear),
+        count: 0,
+    };
+}
+
+// The level that holds where none is stated.
+pub(crate) const MANDATORY: Level = (Grade::Hold, Grade::Hold);
 
 // The string under a name.
-pub(crate) fn string_under(profile: &[u8], members: Option<usize>, name: &[u8]) -> Option<Part>
-    ensures { text_in (find_in name.now (rest_members profile.now members)) ≡ option_map (letters_of profile.now) result }
+pub(crate) fn string_under<'a>(members: Members<'a>, name: &[u8]) -> Option<&'a [u8]>
+    ensures { text_in (find_in name.now (members_left members.entry)) ≡ option_copied result }
 {
-    let at = get(profile, members, name)?;
-    string(profile, at)
+    members.get(name)?.as_string()
 }
 
-// Where the members under a name begin.
-pub(crate) fn members_under(profile: &[u8], members: Option<usize>, name: &[u8]) -> Option<usize>
-    ensures { members_in (find_in name.now (rest_members profile.now members)) ≡ rest_members profile.now result }
+// The level that `ReadRequirement` states.
+fn stated_level(members: Members) -> Option<Level>
+    ensures { result ≡ lookup level_words of text_in (get "ReadRequirement" (members_left members.entry)) }
 {
-    let at = get(profile, members, name)?;
-    members_at(profile, at)
+    LevelWords::meaning(string_under(members, b"ReadRequirement")?)
 }
 
-// Where the items under a name begin.
-pub(crate) fn items_under(profile: &[u8], members: Option<usize>, name: &[u8]) -> Option<usize>
-    ensures { items_in (find_in name.now (rest_members profile.now members)) ≡ rest_items profile.now result }
+// The level that is stated, or that which holds where none is.
+pub(crate) fn level(members: Members, unstated: Level) -> Level
+    ensures { result ≡ level_of unstated (members_left members.entry) }
 {
-    let at = get(profile, members, name)?;
-    items_at(profile, at)
+    stated_level(members).unwrap_or(unstated)
 }
 
-// Where the property entries begin.
-pub(crate) fn properties(profile: &[u8], members: Option<usize>) -> Option<usize>
-    ensures { properties_of (rest_members profile.now members) ≡ rest_members profile.now result }
+// The least count that `MinCount` states.
+fn stated_count(members: Members) -> Option<usize>
+    ensures { result ≡ count_in of get "MinCount" (members_left members.entry) }
 {
-    members_under(profile, members, b"PropertyRequirements")
+    terms::count(members.get(b"MinCount")?)
 }
 
-// The level that `ReadRequirement` states, or that which holds where it is unstated.
-pub(crate) fn level(
-    profile: &[u8],
-    members: Option<usize>,
-    unstated: (Grade, Grade),
-) -> (Grade, Grade)
-    ensures { result ≡ level_of unstated (rest_members profile.now members) }
-{
-    let Some(word) = string_under(profile, members, b"ReadRequirement") else {
-        return unstated;
-    };
-    match level_word(letters(profile, word)) {
-        Some(stated) => stated,
-        None => unstated,
+impl<'a> Comparison<'a> {
+    ghost use Rattle.clause.specs.Shown.{comparison_shown};
+
+    // The comparison with `Values`, by `AnyOf` where no other operator is stated.
+    fn stated(members: Members<'a>) -> Option<Comparison<'a>>
+        ensures { comparison_of (members_left members.entry) ≡ option_map comparison_shown result }
+    {
+        let values = members.get(b"Values")?;
+        Some(Comparison {
+            operator: stated_operator(members).unwrap_or(Operator::AnyOf),
+            values: Listed::of(values),
+        })
     }
 }
 
-// The least count that `MinCount` states, or that which holds where it is unstated.
-fn count(profile: &[u8], members: Option<usize>, unstated: usize) -> usize
-    ensures { result ≡ count_of unstated (rest_members profile.now members) }
-{
-    let Some(at) = get(profile, members, b"MinCount") else {
-        return unstated;
-    };
-    match terms::count(profile, at) {
-        Some(stated) => stated,
-        None => unstated,
-    }
-}
+impl<'a> Asked<'a> {
+    ghost use Rattle.clause.specs.Shown.{asked_shown};
 
-// The comparison with `Values`, by `AnyOf` where no other operator is stated.
-fn comparison(profile: &[u8], members: Option<usize>) -> Option<Comparison>
-    ensures { comparison_of (rest_members profile.now members) ≡ option_map (comparison_shown profile.now) result }
-{
-    let at = get(profile, members, b"Values")?;
-    let operator = match stated_operator(profile, members) {
-        Some(stated) => stated,
-        None => Operator::AnyOf,
-    };
-    Some(Comparison {
-        operator,
-        values: items_at(profile, at),
-    })
-}
-
-// What is asked, with the level and the count that hold where they are unstated.
-pub(crate) fn asked(
-    profile: &[u8],
-    members: Option<usize>,
-    level: (Grade, Grade),
-    least: usize,
-) -> Asked
-    ensures { asked_of level least (rest_members profile.now members) ≡ asked_shown profile.now result }
-{
-    Asked {
-        level: self::level(profile, members, level),
-        count: count(profile, members, least),
-        comparison: comparison(profile, members),
+    // What these members ask, with what holds where nothing is stated.
+    pub(crate) fn stated(members: Members<'a>, unstated: Unstated) -> Asked<'a>
+        ensures { asked_of unstated.level unstated.count (members_left members.entry) ≡ asked_shown result }
+    {
+        Asked {
+            level: level(members, unstated.level),
+            count: stated_count(members).unwrap_or(unstated.count),
+            comparison: Comparison::stated(members),
+        }
     }
 }

@@ -1,17 +1,18 @@
-// The clauses of a profile, one after the other, each told by the places of its parts.
+// The clauses of a profile, one after the other, each told by its parts.
 #![tactic(auto)]
 
 mod asked;
+mod clauses;
 mod conditions;
-mod cursor;
+mod entries;
 mod listed;
 mod parts;
-mod steps;
+mod scalars;
 
-pub use conditions::condition;
-pub use cursor::{Cursor, Taken};
-pub use listed::{name, scalar};
-pub use parts::{
-    Asked, Clause, Comparison, Condition, Demand, Entry, Listed, Named, Names, Parent, Scalar, Test,
-};
-pub use steps::{clause, first, next};
+pub use asked::{Asked, Comparison};
+pub use clauses::{Clauses, clause};
+pub use conditions::{Condition, Test};
+pub use entries::{Entry, Parent};
+pub use listed::{FromValue, Listed};
+pub use parts::{Clause, Conditions, Demand, Scalars, Strings};
+pub use scalars::Scalar;

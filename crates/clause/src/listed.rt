@@ -1,62 +1,95 @@
-// Values to compare, and names, one after the other from a place on.
-ghost use Rattle.std.specs.Prelude.{◌≡◌};
+// The items of a list that read as something, one after the other.
+ghost use Rattle.std.specs.Prelude.{◌≡◌, [], Option};
 ghost use Rattle.std.specs.Option.{option_map};
-ghost use Rattle.requirement.specs.Words.{scalar as scalar_of};
-ghost use Rattle.terms.specs.Places.{value_here};
-ghost use Rattle.clause.specs.Shown.{scalar_shown, values_from, names_from, told_values, told_names};
+ghost use Rattle.syntax.specs.Value as syntax;
+ghost use Rattle.walk.specs.Told.{spelled};
 
-use crate::parts::{Listed, Named, Scalar};
-use syntax::{Kind, Literal};
-use terms::{item, string, whole_number};
+use std::marker::PhantomData;
+use walk::{Items, Members, Value};
 
-// The value at a place, if it can be compared.
-fn scalar_at(profile: &[u8], at: usize) -> Option<Scalar>
-    ensures { scalar_of (value_here profile.now at) ≡ option_map (scalar_shown profile.now) result }
-{
-    let part = text::value(profile, at)?;
-    match part.kind {
-        Kind::Null => Some(Scalar::Constant(Literal::Null)),
-        Kind::False => Some(Scalar::Constant(Literal::False)),
-        Kind::True => Some(Scalar::Constant(Literal::True)),
-        Kind::Number => match whole_number(profile, at) {
-            Some(whole) => Some(Scalar::Number(whole)),
-            None => None,
-        },
-        Kind::String => Some(Scalar::Text(part)),
-        Kind::Array | Kind::Object => None,
+/// What a value of a profile may be read as.
+pub trait FromValue<'a>: Sized {
+    /// What a reading means.
+    ghost Meaning: { Type 0 };
+
+    /// What a value reads as, if it does.
+    ghost read: { syntax.Value → Option Meaning };
+
+    /// What is meant by what was read.
+    ghost shown: { Self → Meaning };
+
+    /// The reading of a value; none where it reads as nothing.
+    fn from_value(value: Value<'a>) -> Option<Self>
+        ensures { option_map shown result ≡ read (spelled value.entry) };
+}
+
+/// The items of a list that read as something, one after the other; the others are passed over.
+// no Debug and no comparison: either would go through the bytes of the profile
+#[derive(Clone, Copy)]
+pub struct Listed<'a, T> {
+    items: Items<'a>,
+    item: PhantomData<T>,
+}
+
+impl<'a, T: FromValue<'a>> Listed<'a, T> {
+    ghost use Rattle.syntax.specs.Contents.{items as items_of};
+    ghost use Rattle.syntax.specs.Walking.{find};
+    ghost use Rattle.walk.specs.Told.{items_left, members_left};
+    ghost use Rattle.requirement.specs.Clause.{each_read, items_in};
+    ghost use Rattle.clause.specs.Shown.{listed_left};
+
+    /// Those of any items.
+    pub fn over(items: Items<'a>) -> Listed<'a, T>
+        ensures { listed_left T.read result ≡ each_read T.read (items_left items.entry) }
+    {
+        Listed {
+            items,
+            item: PhantomData,
+        }
+    }
+
+    // Those of an array; of any other value none.
+    pub(crate) fn of(value: Value<'a>) -> Listed<'a, T>
+        ensures { listed_left T.read result ≡ each_read T.read (items_of (spelled value.entry)) }
+    {
+        Listed::over(value.items_or_none())
+    }
+
+    // Those under a name; where nothing stands under it none.
+    pub(crate) fn under(members: Members<'a>, name: &[u8]) -> Listed<'a, T>
+        ensures { listed_left T.read result ≡ each_read T.read (items_in (find name.now (members_left members.entry))) }
+    {
+        match members.get(name) {
+            Some(value) => Listed::of(value),
+            None => Listed::none(),
+        }
+    }
+
+    // None.
+    pub(crate) fn none() -> Listed<'a, T>
+        ensures { listed_left T.read result ≡ [] }
+    {
+        Listed::over(Items::none())
     }
 }
 
-// The next value to compare, where one comes.
-pub fn scalar(profile: &[u8], next: Option<usize>) -> Option<Listed>
-    ensures { values_from profile.now next ≡ told_values profile.now result }
-{
-    let mut rest = next;
-    while let Some(found) = item(profile, rest) {
-        if let Some(value) = scalar_at(profile, found.value.start) {
-            return Some(Listed {
-                value,
-                next: found.next,
-            });
-        }
-        rest = found.next;
-    }
-    None
-}
+impl<'a, T: FromValue<'a>> Iterator for Listed<'a, T> {
+    ghost use Rattle.std.specs.Iterator.{YieldsFirstBy, item_count};
+    ghost use Rattle.clause.specs.Shown.{listed_left};
 
-// The next name, where one comes.
-pub fn name(profile: &[u8], next: Option<usize>) -> Option<Named>
-    ensures { names_from profile.now next ≡ told_names profile.now result }
-{
-    let mut rest = next;
-    while let Some(found) = item(profile, rest) {
-        if let Some(name) = string(profile, found.value.start) {
-            return Some(Named {
-                name,
-                next: found.next,
-            });
+    type Item = T;
+
+    ghost next_gives = { YieldsFirstBy T.shown (listed_left T.read) };
+
+    ghost remaining = { item_count (listed_left T.read) };
+
+    fn next(&mut self) -> Option<T> {
+        // No `for`: of `&mut self.items` too little would be known where it is left early.
+        while let Some(value) = self.items.next() {
+            if let Some(read) = T::from_value(value) {
+                return Some(read);
+            }
         }
-        rest = found.next;
+        None
     }
-    None
 }

@@ -1,104 +1,41 @@
-use grade::Grade;
-use requirement::{Operator, TestWord};
-use syntax::Literal;
+// A clause, and the lists in it.
+use crate::conditions::Condition;
+use crate::entries::{Entry, Parent};
+use crate::listed::Listed;
+use crate::scalars::Scalar;
+use grade::Level;
 use terms::Version;
-use walk::Part;
 
-// An operator, and where the first of the values stands that it takes, if there is one.
-#[derive(Clone, Copy)]
-pub struct Comparison {
-    pub operator: Operator,
-    pub values: Option<usize>,
-}
+/// Values to compare; what is none is passed over.
+pub type Scalars<'a> = Listed<'a, Scalar<'a>>;
 
-// What an entry, and a condition, asks of a property: the grades for what is absent and for what is unmet, the least count, and a comparison.
-#[derive(Clone, Copy)]
-pub struct Asked {
-    pub level: (Grade, Grade),
-    pub count: usize,
-    pub comparison: Option<Comparison>,
-}
+/// Names; what is none is passed over.
+pub type Strings<'a> = Listed<'a, &'a [u8]>;
 
-// What an entry says of the property of that name; its conditions come one after the other from a place on.
-#[derive(Clone, Copy)]
-pub struct Entry {
-    pub name: Part,
-    pub asks: Asked,
-    pub replaced_by: Option<Part>,
-    pub replaces: Option<Part>,
-    pub conditions: Option<usize>,
-}
+/// Conditions.
+pub type Conditions<'a> = Listed<'a, Condition<'a>>;
 
-// The property in which a nested one stands, and what replaces it.
+/// What a clause demands.
+// no Debug and no comparison: either would go through the bytes of the profile
 #[derive(Clone, Copy)]
-pub struct Parent {
-    pub name: Part,
-    pub replaced_by: Option<Part>,
-}
-
-#[derive(Clone, Copy)]
-pub enum Demand {
-    Presence((Grade, Grade)),
+pub enum Demand<'a> {
+    Presence(Level),
     Version {
-        level: (Grade, Grade),
+        level: Level,
         least: Version,
     },
-    Property(Entry),
+    Property(Entry<'a>),
     Nested {
-        parent: Parent,
-        entry: Entry,
+        parent: Parent<'a>,
+        entry: Entry<'a>,
     },
 }
 
-// A clause: the name of the schema that it is about, the opening quote of the schema name, of `MinVersion` or of the property name, and what it demands.
+/// A clause: the name of the schema that it is about, the opening quote of the schema name, of `MinVersion` or of the property name, and what it demands.
+// no Debug and no comparison: either would go through the bytes of the profile
 #[derive(Clone, Copy)]
-pub struct Clause {
-    pub schema: Part,
+pub struct Clause<'a> {
+    pub schema: &'a [u8],
     pub place: usize,
-    pub demand: Demand,
-}
-
-// Where the first of some names stands, if there is one.
-#[derive(Clone, Copy)]
-pub struct Names {
-    pub first: Option<usize>,
-}
-
-// What a condition tests of the property of that name, and where the first of the values stands, if there is one.
-#[derive(Clone, Copy)]
-pub struct Test {
-    pub property: Part,
-    pub word: TestWord,
-    pub values: Option<usize>,
-}
-
-// A condition: schema names above the resource, a test, what is asked where these are met, and where the next condition stands, if there is one.
-#[derive(Clone, Copy)]
-pub struct Condition {
-    pub under: Option<Names>,
-    pub test: Option<Test>,
-    pub asks: Asked,
-    pub next: Option<usize>,
-}
-
-// What is compared: a string, a whole number, or null, true or false.
-#[derive(Clone, Copy)]
-pub enum Scalar {
-    Text(Part),
-    Number(i64),
-    Constant(Literal),
-}
-
-// One of several values, and where those behind it begin, if there are any.
-#[derive(Clone, Copy)]
-pub struct Listed {
-    pub value: Scalar,
-    pub next: Option<usize>,
-}
-
-// One of several names, and where those behind it begin, if there are any.
-#[derive(Clone, Copy)]
-pub struct Named {
-    pub name: Part,
-    pub next: Option<usize>,
+    pub demand: Demand<'a>,
 }

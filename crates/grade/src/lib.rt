@@ -4,33 +4,41 @@
 ghost use Rattle.std.specs.Prelude.{◌≡◌};
 ghost use Rattle.grade.specs.Grades.{number as number_of, stricter as stricter_of, join as join_of, Strictness, Joining, WorkedRow};
 
-#[derive(Clone, Copy, Debug, PartialEq, Eq)]
+/// How strict a finding is, from the least strict grade to the strictest.
+#[derive(Clone, Copy, Debug, PartialEq, Eq, PartialOrd, Ord)]
 pub enum Grade {
     Clear = 0,
     Note = 1,
     Hold = 2,
 }
 
-// The number by which a grade is told.
-pub fn number(g: Grade) -> u8
-    ensures { result ≡ number_of g }
-{
-    g as u8
+/// A grade for what is absent, and one for what is there and not as asked.
+pub type Level = (Grade, Grade);
+
+impl Grade {
+    /// The number by which the grade is told.
+    pub fn number(self) -> u8
+        ensures { result ≡ number_of self }
+    {
+        self as u8
+    }
+
+    /// The stricter of two grades.
+    // `max` by the name of the rules, since `max` carries no law of theirs.
+    pub fn stricter(self, other: Grade) -> Grade
+        ensures is { result ≡ stricter_of self other }
+        ensures laws { Strictness }
+    {
+        self.max(other)
+    }
 }
 
-// The stricter of two grades.
-pub fn stricter(a: Grade, b: Grade) -> Grade
-    ensures is { result ≡ stricter_of a b }
-    ensures laws { Strictness }
-{
-    if number(a) < number(b) { b } else { a }
-}
-
-// Two levels together: part by part the stricter one.
-pub fn join(a: (Grade, Grade), b: (Grade, Grade)) -> (Grade, Grade)
+/// Two levels together: part by part the stricter one.
+#[tactic(auto, using(crate::proofs::Strict::joining))]
+pub fn join(a: Level, b: Level) -> Level
     ensures is { result ≡ join_of a b }
     ensures laws { Joining }
     ensures row { WorkedRow }
 {
-    (stricter(a.0, b.0), stricter(a.1, b.1))
+    (a.0.stricter(b.0), a.1.stricter(b.1))
 }

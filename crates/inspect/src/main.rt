@@ -2,96 +2,79 @@
 // files, reads every profile, and says how many profiles, clauses and captures there are, or prints the line of the first refusal.
 #![tactic(auto)]
 
+use book::Book;
+use bundle::Bundle;
 use refusal::InspectionFault;
-use std::io;
+use refused::Refused;
+use std::{fmt, io};
 use store::Store;
+use store::pairs::Pairs;
 
-// The most bytes that a file has here.
+/// The most bytes that a file has here.
 const LONGEST: usize = 65_536;
 
-// The most profiles that an inspection takes.
+/// The most profiles that an inspection takes.
 const MOST: usize = 32;
 
-// The numbers of a refusal: its own, the cause of a text's fault, and the place.
-#[derive(Clone, Copy)]
-struct Refused {
-    number: u8,
-    cause: u8,
-    place: usize,
-}
-
-#[derive(Clone, Copy)]
-struct Counts {
-    profiles: usize,
-    clauses: usize,
-    captures: usize,
-}
-
+/// How a file over the limit is told.
 const TOO_LONG: Refused = Refused {
     number: 1,
     cause: 0,
     place: 0,
 };
 
-fn check_library(library: &[u8]) -> Result<(), Refused> {
-    if library.len() > LONGEST {
-        return Err(TOO_LONG);
-    }
-    match book::check(library) {
-        Ok(()) => Ok(()),
-        Err(refusal) => Err(Refused {
-            number: refusal.number(),
-            cause: refusal.cause(),
-            place: refusal.place(),
-        }),
+/// How many profiles, clauses and captures there are.
+#[derive(Clone, Copy, Debug)]
+struct Counts {
+    profiles: usize,
+    clauses: usize,
+    captures: usize,
+}
+
+impl fmt::Display for Counts {
+    fn fmt<W: fmt::Write>(&self, f: &mut fmt::Formatter<W>) -> fmt::Result {
+        let Counts {
+            profiles,
+            clauses,
+            captures,
+        } = *self;
+        write!(
+            f,
+            "profiles {profiles} clauses {clauses} captures {captures}"
+        )
     }
 }
 
-fn check_captures(captures: &[u8]) -> Result<(), Refused> {
-    if captures.len() > LONGEST {
-        return Err(TOO_LONG);
-    }
-    match bundle::check(captures) {
-        Ok(()) => Ok(()),
-        Err(refusal) => Err(Refused {
-            number: refusal.rule.number(),
-            cause: 0,
-            place: refusal.place,
-        }),
+fn check_length(file: &[u8]) -> Result<(), Refused> {
+    if file.len() > LONGEST {
+        Err(TOO_LONG)
+    } else {
+        Ok(())
     }
 }
 
-// How many clauses the profiles of a library have; the first that is refused, or is one too many, is told.
-fn count_clauses(library: &[u8]) -> Result<usize, InspectionFault> {
-    let profiles = book::open(library);
+/// How many clauses the profiles of a library have; the first that is refused, or is one too many, is told.
+fn count_clauses(profiles: &Book) -> Result<usize, InspectionFault> {
     let mut clauses = 0usize;
-    for n in 0..profiles.count() {
+    for (n, pair) in Pairs::of(profiles).enumerate() {
         if n >= MOST {
             return Err(InspectionFault::TooManyPicks);
         }
-        clauses = clauses.saturating_add(profile::read(profiles.body(n))?);
+        clauses = clauses.saturating_add(profile::read(pair.body)?);
     }
     Ok(clauses)
 }
 
-fn read_profiles(library: &[u8]) -> Result<usize, Refused> {
-    match count_clauses(library) {
-        Ok(clauses) => Ok(clauses),
-        Err(fault) => Err(Refused {
-            number: fault.number(),
-            cause: fault.cause(),
-            place: fault.place(),
-        }),
-    }
-}
-
 fn inspect(library: &[u8], captures: &[u8]) -> Result<Counts, Refused> {
-    check_library(library)?;
-    check_captures(captures)?;
+    check_length(library)?;
+    book::check(library)?;
+    check_length(captures)?;
+    bundle::check(captures)?;
+    let profiles = book::open(library);
     Ok(Counts {
-        clauses: read_profiles(library)?,
-        profiles: book::open(library).count(),
-        captures: bundle::Bundle::open(captures).count(),
+        profiles: profiles.count(),
+        clauses: count_clauses(&profiles)?,
+        captures: Bundle::open(captures).count(),
     })
 }
 
@@ -99,19 +82,7 @@ fn main(rt: HostRuntime) -> io::Result<()> {
     let library = files::read_file(&rt, "library.json", LONGEST)?;
     let captures = files::read_file(&rt, "captures.cap", LONGEST)?;
     match inspect(&library, &captures) {
-        Ok(
-            Counts {
-                profiles,
-                clauses,
-                captures,
-            },
-        ) => { println!(rt; "profiles {profiles} clauses {clauses} captures {captures}") }
-        Err(
-            Refused {
-                number,
-                cause,
-                place,
-            },
-        ) => println!(rt; "R {number} {cause} {place}"),
+        Ok(counts) => println!(rt; "{counts}"),
+        Err(refused) => println!(rt; "{refused}"),
     }
 }

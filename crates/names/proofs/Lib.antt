@@ -1,4 +1,3 @@
 pub mod Rows
-pub mod Less
 pub mod Sorted
 pub mod Order

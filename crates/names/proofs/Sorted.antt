@@ -1,164 +1,197 @@
--- Rows that lie in order by their bytes and starts.
-use Rattle.std.proofs.Common.{◌≡◌, ℕ, zero, suc, ◌+◌, ◌-◌, ◌<◌, ◌≤◌, true, false, ◌&&◌, ◌||◌, ltb, ◌⊎◌, List, length, None, Option, sym, ap, ◌∙◌, subst, inl, inr, ⊎_elim, arith}
+-- Names in order, where a name that repeats an earlier one stands behind one with its bytes.
+use Rattle.std.proofs.Common.{◌≡◌, ℕ, zero, suc, ◌+◌, ◌-◌, ◌<◌, ◌≤◌, true, false, ◌⊎◌, List, length, get_or, take, drop, Bor, Some, None, Option, MatchOption, sym, refl, ap, ◌∙◌, subst, ⊎_elim, arith}
+use Rattle.std.specs.Cmp.{IsTotalOrder, IsStrictWeakOrder}
+use Rattle.std.specs.Cmp.Lexicographic.{slice_cmp}
+use Rattle.std.specs.Ordering.{MatchOrdering, nat_cmp, ordering_then, ordering_reverse, is_lt, is_eq}
+use Rattle.std.specs.declared.cmp.Ordering.{Ordering}
+use Rattle.std.specs.declared.cmp.Ordering.TheVariants.{Less, Equal, Greater}
 use Rattle.std.specs.List.Sorted.{IsPermutation}
-use Rattle.std.proofs.lemmas.Bool.{both_ways, cases_Bool, cases_lt, cases_order}
+use Rattle.std.specs.Slice.Iter.{windows_size, windows_rest, windows_steps}
+use Rattle.std.specs.declared.slice.Windows.{Windows}
+use Rattle.std.proofs.lemmas.Bool.{cond-true, cond-false, lt-leb, le-leb, cases_lt}
+use Rattle.std.proofs.lemmas.Bool.Decides.{nat_tests}
+use Rattle.std.proofs.lemmas.Cmp.{nat_cmp_total, nat_list_cmp_total, on_total, then_total, tied_itself}
+use Rattle.std.proofs.lemmas.Iterator.{window_more}
+use Rattle.std.proofs.lemmas.List.Sorted.{IsPermutation-sym, ranks_by, sorted_far}
+use Rattle.std.proofs.lemmas.Map.Text.{is_eq-slice_cmp}
+use Rattle.std.proofs.lemmas.Slice.Eq.{bytes_eq-Decides}
 use Rattle.std.proofs.ByRecursion.{has_get_or, has_shuffled}
-use Rattle.std.proofs.lemmas.List.Sorted.{IsPermutation-sym}
 use Rattle.syntax.specs.Bytes.{same}
-use Rattle.names.specs.declared.name.Name.{Name}
-use Rattle.names.specs.Repeats.{bytes_of, Repeats, Least, FirstRepeat, lesser}
-use Rattle.names.specs.Sorting.{less, before}
-use Rattle.names.proofs.Rows.{at, Again, earlier_at, same_eq, same_sym, least_more, least_like}
-use Rattle.names.proofs.Less.{less_irrefl, less_trans, less_one_way, less_not_same}
+use Rattle.names.specs.declared.span.Span.{Span}
+use Rattle.names.specs.Order.{span_cmp, IsInOrder, sooner}
+use Rattle.names.specs.Repeats.{bytes_of, Again, Repeats, FirstRepeat}
+use Rattle.names.proofs.Rows.{same_eq, same_refl}
 
--- the same rows in another order have the same first repeat
-module _ (s : List ℕ) (ns ms : List Name) (moved : IsPermutation ns ms) where
-  repeats_moved : (q : ℕ) → Repeats s ns q → Repeats s ms q
-  repeats_moved q r =
-      let e = r.earlier in
-      record { name = r.name; there = has_shuffled ns ms r.name moved r.there; earlier = record { row = e.row; there = has_shuffled ns ms e.row moved e.there; before = e.before; alike = e.alike }; ends = r.ends }
+-- the same names in another order have the same first repeat
+repeats_moved : (s : List ℕ) (ns ms : List Span) → IsPermutation ns ms → (n : Span) → Repeats s ns n → Repeats s ms n
+repeats_moved s ns ms moved n r =
+    record { there = has_shuffled ns ms n moved r.there; earlier = r.earlier; earlier_there = has_shuffled ns ms r.earlier moved r.earlier_there; again = r.again }
 
-pub first_moved : (s : List ℕ) (ns ms : List Name) (r : Option ℕ) → IsPermutation ns ms → FirstRepeat s ms r → FirstRepeat s ns r
-first_moved s ns ms r moved h =
-    least_like (Repeats s ms) (Repeats s ns) (repeats_moved s ms ns (IsPermutation-sym ns ms moved)) (repeats_moved s ns ms moved) r h
+pub first_moved : (s : List ℕ) (ns ms : List Span) (r : Option Span) → IsPermutation ns ms → FirstRepeat s ms r → FirstRepeat s ns r
+first_moved s ns ms None moved h = λ n r. h n (repeats_moved s ns ms moved n r)
+first_moved s ns ms (Some n) moved h =
+    (repeats_moved s ms ns (IsPermutation-sym ns ms moved) n h.0, λ m r. h.1 m (repeats_moved s ns ms moved m r))
 
--- a comes before b by the bytes, or has the same bytes and begins before it
-abbrev pub Before : List ℕ → Name → Name → Type 0
-Before s a b = (less (bytes_of s a) (bytes_of s b) ≡ true) ⊎ Again s a b
+pub span_cmp_total : (s : List ℕ) → IsTotalOrder (span_cmp s)
+span_cmp_total s =
+    then_total (then_total (on_total (bytes_of s) nat_list_cmp_total) (on_total (λ n. n.start) nat_cmp_total)) (on_total (λ n. n.end) nat_cmp_total)
 
-module _ (s : List ℕ) (a b : Name) where
-  -- what `before` answers where the bytes are the same, and where those of b come first
-  pub before_same : same (bytes_of s a) (bytes_of s b) ≡ true → ltb a.start b.start ≡ before s a b
-  before_same h =
-      let none : less (bytes_of s a) (bytes_of s b) ≡ false = subst (λ l. less (bytes_of s a) l ≡ false) (same_eq _ _ h) (less_irrefl (bytes_of s a)) in
-      sym (ap (λ t. t || (same (bytes_of s a) (bytes_of s b) && ltb a.start b.start)) none ∙ ap (λ t. t && ltb a.start b.start) h)
+pub span_ranks : (s : List ℕ) → IsStrictWeakOrder (λ a b. is_lt (span_cmp s a b))
+span_ranks s = ranks_by (span_cmp_total s) (λ n. n)
 
-  pub before_greater : less (bytes_of s b) (bytes_of s a) ≡ true → false ≡ before s a b
-  before_greater h =
-      let none : less (bytes_of s a) (bytes_of s b) ≡ false = less_one_way (bytes_of s b) (bytes_of s a) h in
-      let other : same (bytes_of s a) (bytes_of s b) ≡ false = ⊎_elim (λ k. absurd (less_not_same (bytes_of s b) (bytes_of s a) h (same_sym (bytes_of s a) (bytes_of s b) k))) (λ k. k) (cases_Bool (same (bytes_of s a) (bytes_of s b))) in
-      sym (ap (λ t. t || (same (bytes_of s a) (bytes_of s b) && ltb a.start b.start)) none ∙ ap (λ t. t && ltb a.start b.start) other)
+-- a does not come behind b
+abbrev Upto : List ℕ → Span → Span → Type 0
+Upto s a b = MatchOrdering (slice_cmp nat_cmp (bytes_of s a) (bytes_of s b)) (Unit {0}) ((a.start < b.start) ⊎ ((a.start ≡ b.start) × (a.end ≤ b.end))) ⊥
 
-module _ (s : List ℕ) where
-  less_again : (a b c : Name) → less (bytes_of s a) (bytes_of s b) ≡ true → Before s b c → less (bytes_of s a) (bytes_of s c) ≡ true
-  less_again a b c h k =
-      ⊎_elim (λ l. less_trans (bytes_of s a) (bytes_of s b) (bytes_of s c) h l) (λ l. subst (λ w. less (bytes_of s a) w ≡ true) (same_eq _ _ l.1) h) k
+upto_places : (p q u v : ℕ) → is_lt (ordering_then (nat_cmp q p) (nat_cmp v u)) ≡ false → (p < q) ⊎ ((p ≡ q) × (u ≤ v))
+upto_places p q u v h = grind (arith, nat_tests)
 
-  pub before_trans : (a b c : Name) → Before s a b → Before s b c → Before s a c
-  before_trans a b c h k =
-      ⊎_elim (λ l. inl (less_again a b c l k))
-      (λ l. ⊎_elim (λ m. inl (subst (λ w. less w (bytes_of s c) ≡ true) (sym (same_eq _ _ l.1)) m))
-      (λ m. inr (omega (arith, l.0, m.0), subst (λ w. same w (bytes_of s c) ≡ true) (sym (same_eq _ _ l.1)) m.1)) k) h
+upto_parts : (o : Ordering) (p q u v : ℕ) → is_lt (ordering_then (ordering_then (ordering_reverse o) (nat_cmp q p)) (nat_cmp v u)) ≡ false → MatchOrdering o (Unit {0}) ((p < q) ⊎ ((p ≡ q) × (u ≤ v))) ⊥
+upto_parts Less p q u v h = tt
+upto_parts Equal p q u v h = upto_places p q u v h
+upto_parts Greater p q u v h = cc
 
--- the first i rows lie in order
-abbrev pub Lies : List ℕ → List Name → ℕ → Type 0
-Lies s ns i = (k : ℕ) → k + 1 < i → Before s (at ns k) (at ns (k + 1))
+upto_from : (s : List ℕ) (a b : Span) → is_lt (span_cmp s b a) ≡ false → Upto s a b
+upto_from s a b h =
+    upto_parts (slice_cmp nat_cmp (bytes_of s a) (bytes_of s b)) a.start b.start a.end b.end
+    (subst (λ o. is_lt (ordering_then (ordering_then o (nat_cmp b.start a.start)) (nat_cmp b.end a.end)) ≡ false) (nat_list_cmp_total.antisymm (bytes_of s b) (bytes_of s a)) h)
 
-module _ (s : List ℕ) (ns : List Name) (n : ℕ) (up : Lies s ns n) where
-  far : (d i : ℕ) → i + suc d < n → Before s (at ns i) (at ns (i + suc d))
-  far zero i l = up i l
-  far (suc d) i l =
-      let e : (i + suc d) + 1 ≡ i + suc (suc d) = omega arith in
-      subst (λ k. Before s (at ns i) (at ns k)) e (before_trans s (at ns i) (at ns (i + suc d)) (at ns ((i + suc d) + 1)) (far d i (omega arith)) (up (i + suc d) (omega arith)))
+-- of names with the same bytes the starts decide, and then the ends
+upto_alike : (s : List ℕ) (a b : Span) → Upto s a b → bytes_of s a ≡ bytes_of s b → (a.start < b.start) ⊎ ((a.start ≡ b.start) × (a.end ≤ b.end))
+upto_alike s a b h e =
+    subst (λ o. MatchOrdering o (Unit {0}) ((a.start < b.start) ⊎ ((a.start ≡ b.start) × (a.end ≤ b.end))) ⊥)
+    (ap (slice_cmp nat_cmp (bytes_of s a)) (sym e) ∙ tied_itself nat_list_cmp_total (bytes_of s a)) h
 
-  lies_far : (i k : ℕ) → i < k → k < n → Before s (at ns i) (at ns k)
-  lies_far i k l m =
-      let e : i + suc (k - i - 1) ≡ k = omega arith in
-      subst (λ j. Before s (at ns i) (at ns j)) e (far (k - i - 1) i (omega arith))
+level : (o p : Ordering) (E F : Type 0) → MatchOrdering o (Unit {0}) E ⊥ → MatchOrdering p (Unit {0}) F ⊥ → p ≡ ordering_reverse o → o ≡ Equal
+level Less p E F h k e = absurd (subst (λ t. MatchOrdering t (Unit {0}) F ⊥) e k)
+level Equal p E F h k e = refl
+level Greater p E F h k e = absurd h
 
-  again_not_before : (i k : ℕ) → Again s (at ns i) (at ns k) → Before s (at ns k) (at ns i) → ⊥
-  again_not_before i k g h =
-      ⊎_elim (λ l. both_ways _ (less_irrefl (bytes_of s (at ns i))) (subst (λ w. less w (bytes_of s (at ns i)) ≡ true) (sym (same_eq _ _ g.1)) l))
-      (λ l. omega (arith, g.0, l.0)) h
+-- what stands between names with the same bytes has them too
+between_alike : (s : List ℕ) (a b c : Span) → Upto s a b → Upto s b c → bytes_of s a ≡ bytes_of s c → bytes_of s a ≡ bytes_of s b
+between_alike s a b c h k e =
+    let back = ap (slice_cmp nat_cmp (bytes_of s b)) (sym e) ∙ nat_list_cmp_total.antisymm (bytes_of s b) (bytes_of s a) in
+    let equal = level (slice_cmp nat_cmp (bytes_of s a) (bytes_of s b)) (slice_cmp nat_cmp (bytes_of s b) (bytes_of s c)) _ _ h k back in
+    (bytes_eq-Decides _ _).0 (sym (is_eq-slice_cmp (bytes_of s a) (bytes_of s b)) ∙ ap is_eq equal)
 
-  again_further : (i k : ℕ) → i < n → k < n → Again s (at ns i) (at ns k) → i < k
-  again_further i k l m g =
-      ⊎_elim (λ e. absurd (omega (arith, g.0, ap (λ j. (at ns j).start) e))) (λ h. ⊎_elim (λ x. x) (λ x. absurd (again_not_before i k g (lies_far k i x l))) h) (cases_order i k)
+abbrev pub at : List Span → ℕ → Span
+at ns k = get_or ns k (record { start = 0; end = 0 })
 
-  -- a row that repeats an earlier one has its bytes from its left neighbour
-  pub left_alike : (i k : ℕ) → i < n → k + 1 < n → i ≤ k → Again s (at ns i) (at ns (k + 1)) → same (bytes_of s (at ns k)) (bytes_of s (at ns (k + 1))) ≡ true
-  left_alike i k l m h g =
+-- name k + 1 repeats its left neighbour
+pub record Beside (s : List ℕ) (ns : List Span) (k : ℕ) : Type 0 where
+  pub below : k + 1 < length ns
+  pub again : Again s (at ns k) (at ns (k + 1))
+
+-- of the names 1 to i that repeat their left neighbours, the one that ends first
+abbrev pub FirstBeside : List ℕ → List Span → ℕ → Option Span → Type 0
+FirstBeside s ns i None = (k : ℕ) → k < i → Beside s ns k → ⊥
+FirstBeside s ns i (Some n) = ((k : ℕ) × Beside s ns k × (at ns (k + 1) ≡ n)) × ((k : ℕ) → k < i → Beside s ns k → n.end ≤ (at ns (k + 1)).end)
+
+-- one name more
+module _ (s : List ℕ) (ns : List Span) (i : ℕ) where
+  first_taken : (o : Option Span) (n : Span) → Beside s ns i → at ns (i + 1) ≡ n → MatchOption o (Unit {0}) (λ m. n.end ≤ m.end) → FirstBeside s ns i o → FirstBeside s ns (i + 1) (Some n)
+  first_taken None n b e l h =
+      ((i, b, e), λ k m x. ⊎_elim (λ y. absurd (h k y x)) (λ y. let z : k ≡ i = omega arith in omega (arith, ap (λ j. (at ns (j + 1)).end) z, ap (λ (w : Span). w.end) e)) (cases_lt k i))
+  first_taken (Some f) n b e l h =
+      ((i, b, e), λ k m x. ⊎_elim (λ y. omega (arith, l, h.1 k y x)) (λ y. let z : k ≡ i = omega arith in omega (arith, ap (λ j. (at ns (j + 1)).end) z, ap (λ (w : Span). w.end) e)) (cases_lt k i))
+
+  first_kept : (f n : Span) → at ns (i + 1) ≡ n → f.end ≤ n.end → FirstBeside s ns i (Some f) → FirstBeside s ns (i + 1) (Some f)
+  first_kept f n e l h =
+      (h.0, λ k m x. ⊎_elim (λ y. h.1 k y x) (λ y. let z : k ≡ i = omega arith in omega (arith, ap (λ j. (at ns (j + 1)).end) z, ap (λ (w : Span). w.end) e)) (cases_lt k i))
+
+  pub first_more : (o : Option Span) (n : Span) → Beside s ns i → at ns (i + 1) ≡ n → FirstBeside s ns i o → FirstBeside s ns (i + 1) (Some (sooner o n))
+  first_more None n b e h = first_taken None n b e tt h
+  first_more (Some f) n b e h =
+      ⊎_elim (λ l. subst (λ m. FirstBeside s ns (i + 1) (Some m)) (sym (cond-false _ _ _ (lt-leb _ _ l))) (first_taken (Some f) n b e (omega arith) h))
+      (λ l. subst (λ m. FirstBeside s ns (i + 1) (Some m)) (sym (cond-true _ _ _ (le-leb _ _ l))) (first_kept f n e l h))
+      (cases_lt n.end f.end)
+
+  pub first_passed : (o : Option Span) → (Beside s ns i → ⊥) → FirstBeside s ns i o → FirstBeside s ns (i + 1) o
+  first_passed None p h = λ k m x. ⊎_elim (λ y. h k y x) (λ y. let z : k ≡ i = omega arith in p (subst (Beside s ns) z x)) (cases_lt k i)
+  first_passed (Some f) p h =
+      (h.0, λ k m x. ⊎_elim (λ y. h.1 k y x) (λ y. let z : k ≡ i = omega arith in absurd (p (subst (Beside s ns) z x))) (cases_lt k i))
+
+-- the windows that are left, of those of two neighbours, and the name found in those before
+pub record Walked (s : List ℕ) (ns : List Span) (left : Windows Span) (o : Option Span) : Type 0 where
+  pub size : windows_size left ≡ 2
+  pub short : length (windows_rest left) ≤ length ns
+  pub rest : windows_rest left ≡ drop (length ns - length (windows_rest left)) ns
+  pub first : FirstBeside s ns (length ns - length (windows_rest left)) o
+
+-- one window more
+module _ (s : List ℕ) (ns : List Span) (v u : Windows Span) (r : Option (Bor (List Span))) (w : Bor (List Span)) (o : Option Span) (is : r ≡ Some w) (steps : windows_steps v r u) (h : Walked s ns v o) where
+  i : ℕ
+  i = length ns - length (windows_rest v)
+
+  walked_on : (p : Option Span) → (i + 1 < length ns → at w.now 0 ≡ at ns i → at w.now 1 ≡ at ns (i + 1) → FirstBeside s ns i o → FirstBeside s ns (i + 1) p) → Walked s ns u p
+  unfolding i
+  walked_on p more =
+      let m = window_more ns v u r w is steps (omega (arith, h.size)) h.short h.rest in
+      let next : i + 1 ≡ length ns - length (windows_rest u) = omega (arith, m.0, m.2, h.size, h.short) in
+      let none : length ns - length (windows_rest v) + 0 ≡ i = omega arith in
+      record {
+        size = steps.0 ∙ h.size;
+        short = omega (arith, m.0, h.short);
+        rest = m.1;
+        first = subst (λ k. FirstBeside s ns k p) next (more (omega (arith, m.2, h.size, h.short)) (m.3 0 _ (omega (arith, h.size)) ∙ ap (at ns) none) (m.3 1 _ (omega (arith, h.size))) h.first);
+      }
+
+  pub walked_taken : Again s (at w.now 0) (at w.now 1) → Walked s ns u (Some (sooner o (at w.now 1)))
+  unfolding i
+  walked_taken g = walked_on (Some (sooner o (at w.now 1))) (λ l a b f. first_more s ns i o (at w.now 1) (record { below = l; again = subst (Again s (at ns i)) b (subst (λ m. Again s m (at w.now 1)) a g) }) (sym b) f)
+
+  pub walked_passed : (Again s (at w.now 0) (at w.now 1) → ⊥) → Walked s ns u o
+  unfolding i
+  walked_passed g = walked_on o (λ l a b f. first_passed s ns i o (λ x. g (subst (Again s (at w.now 0)) (sym b) (subst (λ m. Again s m (at ns (i + 1))) (sym a) x.again))) f)
+
+module _ (s : List ℕ) (ns : List Span) (up : IsInOrder s ns) where
+  upto : (i j : ℕ) → i ≤ j → j < length ns → Upto s (at ns i) (at ns j)
+  upto i j l m = upto_from s (at ns i) (at ns j) (sorted_far (λ a b. is_lt (span_cmp s a b)) (span_ranks s) ns up i j _ l m)
+
+  -- where a name repeats an earlier one, some name that ends no later repeats its left neighbour
+  beside_before : (j i : ℕ) → i ≤ j → j < length ns → Again s (at ns i) (at ns j) → (k : ℕ) × Beside s ns k × ((at ns (k + 1)).end ≤ (at ns j).end)
+  beside_before zero i l m g = absurd (let e : i ≡ 0 = omega arith in omega (arith, g.before, ap (λ k. (at ns k).start) e))
+  beside_before (suc j) i l m g =
+      let more : suc j ≡ j + 1 = omega arith in
+      let alike = same_eq _ _ g.alike in
       ⊎_elim
-      (λ x. ⊎_elim (λ p. absurd (less_not_same (bytes_of s (at ns i)) (bytes_of s (at ns (k + 1))) (less_again s (at ns i) (at ns k) (at ns (k + 1)) p (up k m)) g.1))
-      (λ p. subst (λ w. same w (bytes_of s (at ns (k + 1))) ≡ true) (same_eq _ _ p.1) g.1) (lies_far i k x (omega arith)))
-      (λ x. let e : i ≡ k = omega arith in subst (λ j. same (bytes_of s (at ns j)) (bytes_of s (at ns (k + 1))) ≡ true) e g.1) (cases_lt i k)
+      (λ h.
+      let near = between_alike s (at ns i) (at ns j) (at ns (suc j)) (upto i j (omega arith) (omega arith)) (upto j (suc j) (omega arith) m) alike in
+      ⊎_elim
+      (λ x. (
+        j,
+        record { below = omega arith; again = subst (λ k. Again s (at ns j) (at ns k)) more (record { before = x; alike = subst (λ b. same b (bytes_of s (at ns (suc j))) ≡ true) near g.alike }) },
+        omega (arith, ap (λ k. (at ns k).end) more),
+      ))
+      (λ x.
+      let rest = beside_before j i (omega arith) (omega arith) (record { before = omega (arith, g.before, x.0); alike = subst (λ b. same (bytes_of s (at ns i)) b ≡ true) near (same_refl (bytes_of s (at ns i))) }) in
+      (rest.0, rest.1, omega (arith, rest.2, x.1)))
+      (upto_alike s (at ns j) (at ns (suc j)) (upto j (suc j) (omega arith) m) (sym near ∙ alike)))
+      (λ h. absurd (let e : i ≡ suc j = omega arith in omega (arith, g.before, ap (λ k. (at ns k).start) e)))
+      (cases_lt i (suc j))
 
--- one of the first i rows ends at q and has the bytes of its left neighbour
-pub record Beside (s : List ℕ) (ns : List Name) (i q : ℕ) : Type 0 where
-  pub place : ℕ
-  pub below : place + 1 < i
-  pub inside : place + 1 < length ns
-  pub alike : same (bytes_of s (at ns place)) (bytes_of s (at ns (place + 1))) ≡ true
-  pub ends : q ≡ (at ns (place + 1)).end
+  repeat_beside : (n : Span) → Repeats s ns n → (k : ℕ) × Beside s ns k × ((at ns (k + 1)).end ≤ n.end)
+  repeat_beside n r =
+      let i = r.earlier_there.0 in
+      let j = r.there.0 in
+      let is = r.there.2 (record { start = 0; end = 0 }) in
+      let again : Again s (at ns i) (at ns j) = subst (λ w. Again s w (at ns j)) (sym (r.earlier_there.2 _)) (subst (Again s r.earlier) (sym is) r.again) in
+      ⊎_elim
+      (λ h. absurd (⊎_elim (λ x. omega (arith, x, again.before)) (λ x. omega (arith, x.0, again.before)) (upto_alike s (at ns j) (at ns i) (upto j i (omega arith) r.earlier_there.1) (sym (same_eq _ _ again.alike)))))
+      (λ h. let b = beside_before j i h r.there.1 again in (b.0, b.1, omega (arith, b.2, ap (λ (w : Span). w.end) is)))
+      (cases_lt j i)
 
-module _ (s : List ℕ) (ns : List Name) where
-  pub lies_none : Lies s ns 1
-  lies_none k l = absurd (omega arith)
+  beside_repeats : (k : ℕ) → Beside s ns k → Repeats s ns (at ns (k + 1))
+  beside_repeats k b =
+      record { there = has_get_or ns (k + 1) _ b.below; earlier = at ns k; earlier_there = has_get_or ns k _ (omega (arith, b.below)); again = b.again }
 
-  pub lies_more : (i : ℕ) → 1 ≤ i → Before s (at ns (i - 1)) (at ns i) → Lies s ns i → Lies s ns (i + 1)
-  lies_more i one h up k l =
-      ⊎_elim (λ m. up k m)
-      (λ m. let e : i ≡ k + 1 = omega arith in let f : i - 1 ≡ k = omega arith in subst (λ j. Before s (at ns k) (at ns j)) e (subst (λ j. Before s (at ns j) (at ns i)) f h)) (cases_lt (k + 1) i)
+  first_all : (i : ℕ) (o : Option Span) → length ns ≤ i + 1 → FirstBeside s ns i o → FirstRepeat s ns o
+  first_all i None l h = λ n r. let b = repeat_beside n r in h b.0 (omega (arith, b.1.below)) b.1
+  first_all i (Some n) l h =
+      (subst (Repeats s ns) h.0.2 (beside_repeats h.0.0 h.0.1), λ m r. let b = repeat_beside m r in omega (arith, h.1 b.0 (omega (arith, b.1.below)) b.1, b.2))
 
-  pub beside_none : Least (Beside s ns 1) None
-  beside_none q h = omega (arith, h.below)
-
-  beside_up : (i q : ℕ) → Beside s ns i q → Beside s ns (i + 1) q
-  beside_up i q h = record { place = h.place; below = omega (arith, h.below); inside = h.inside; alike = h.alike; ends = h.ends }
-
-  beside_down : (i q : ℕ) → Beside s ns (i + 1) q → Beside s ns i q ⊎ ((same (bytes_of s (at ns (i - 1))) (bytes_of s (at ns i)) ≡ true) × (q ≡ (at ns i).end))
-  beside_down i q h =
-      ⊎_elim (λ l. inl (record { place = h.place; below = l; inside = h.inside; alike = h.alike; ends = h.ends }))
-      (λ l. let e : h.place + 1 ≡ i = omega (arith, h.below) in
-      let f : h.place ≡ i - 1 = omega (arith, h.below) in
-      inr (subst (λ j. same (bytes_of s (at ns (i - 1))) (bytes_of s (at ns j)) ≡ true) e (subst (λ j. same (bytes_of s (at ns j)) (bytes_of s (at ns (h.place + 1))) ≡ true) f h.alike), h.ends ∙ ap (λ k. (at ns k).end) e))
-      (cases_lt (h.place + 1) i)
-
-  pub beside_takes : (i : ℕ) (o : Option ℕ) → 1 ≤ i → i < length ns → same (bytes_of s (at ns (i - 1))) (bytes_of s (at ns i)) ≡ true → Least (Beside s ns i) o → Least (Beside s ns (i + 1)) (lesser o (at ns i).end)
-  beside_takes i o one l e h =
-      let f : i ≡ (i - 1) + 1 = omega arith in
-      least_more (Beside s ns i) (Beside s ns (i + 1)) (at ns i).end (beside_up i)
-      (record { place = i - 1; below = omega arith; inside = omega arith; alike = subst (λ j. same (bytes_of s (at ns (i - 1))) (bytes_of s (at ns j)) ≡ true) f e; ends = ap (λ k. (at ns k).end) f })
-      (λ q m. ⊎_elim (λ a. inl a) (λ a. inr a.1) (beside_down i q m)) o h
-
-  pub beside_passes : (i : ℕ) (o : Option ℕ) → (same (bytes_of s (at ns (i - 1))) (bytes_of s (at ns i)) ≡ true → ⊥) → Least (Beside s ns i) o → Least (Beside s ns (i + 1)) o
-  beside_passes i o e h = least_like (Beside s ns i) (Beside s ns (i + 1)) (beside_up i) (λ q m. ⊎_elim (λ a. a) (λ a. absurd (e a.0)) (beside_down i q m)) o h
-
-  module _ (i : ℕ) (all : length ns ≤ i) (up : Lies s ns i) where
-    whole : Lies s ns (length ns)
-    whole k l = up k (omega arith)
-
-    -- a row with the bytes of its left neighbour repeats it
-    beside_repeats : (q : ℕ) → Beside s ns i q → Repeats s ns q
-    beside_repeats q m =
-        record {
-          name = at ns (m.place + 1);
-          there = has_get_or ns (m.place + 1) _ m.inside;
-          earlier = earlier_at s ns (at ns (m.place + 1)) m.place (omega (arith, m.inside))
-              (⊎_elim (λ l. absurd (less_not_same (bytes_of s (at ns m.place)) (bytes_of s (at ns (m.place + 1))) l m.alike)) (λ l. l) (up m.place m.below));
-          ends = m.ends;
-        }
-
-    -- a row that repeats another repeats its left neighbour
-    again_beside : (h k q : ℕ) → h < length ns → k < length ns → Again s (at ns h) (at ns k) → q ≡ (at ns k).end → Beside s ns i q
-    again_beside h k q l m g e =
-        let d : h < k = again_further s ns (length ns) whole h k l m g in
-        let f : k ≡ (k - 1) + 1 = omega arith in
-        record {
-          place = k - 1;
-          below = omega arith;
-          inside = omega arith;
-          alike = left_alike s ns (length ns) whole h (k - 1) l (omega arith) (omega arith) (subst (λ j. Again s (at ns h) (at ns j)) f g);
-          ends = e ∙ ap (λ j. (at ns j).end) f;
-        }
-
-    repeats_beside : (q : ℕ) → Repeats s ns q → Beside s ns i q
-    repeats_beside q r =
-        let t = r.there in
-        let u = r.earlier.there in
-        let P : Name → Type 0 = λ w. Again s w (at ns t.0) in
-        let Q : Name → Type 0 = λ w. Again s r.earlier.row w in
-        again_beside u.0 t.0 q u.1 t.1 (subst P (sym (u.2 _)) (subst Q (sym (t.2 _)) (r.earlier.before, r.earlier.alike))) (r.ends ∙ ap (λ (w : Name). w.end) (sym (t.2 _)))
-
-    pub beside_all : (o : Option ℕ) → Least (Beside s ns i) o → FirstRepeat s ns o
-    beside_all o h = least_like (Beside s ns i) (Repeats s ns) beside_repeats repeats_beside o h
+  -- no window more
+  pub walked_all : (v u : Windows Span) (r : Option (Bor (List Span))) (o : Option Span) → r ≡ None → windows_steps v r u → Walked s ns v o → FirstRepeat s ns o
+  walked_all v u r o is steps h =
+      let end : (length (windows_rest v) < windows_size v) × (u ≡ v) = subst (λ x. MatchOption x ((length (windows_rest v) < windows_size v) × (u ≡ v)) (λ y. (windows_size v ≤ length (windows_rest v)) × (y.now ≡ take (windows_size v) (windows_rest v)) × (windows_rest u ≡ drop 1 (windows_rest v)) × (length y.now ≡ windows_size v))) is steps.1 in
+      first_all (length ns - length (windows_rest v)) o (omega (arith, end.0, h.size)) h.first

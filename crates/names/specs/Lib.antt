@@ -1,2 +1,2 @@
 pub mod Repeats
-pub mod Sorting
+pub mod Order

@@ -2,92 +2,52 @@
 #![tactic(auto)]
 
 mod compare;
-mod heap;
-mod name;
+mod span;
 
-ghost use Rattle.names.specs.Repeats.{Earlier, FirstRepeat, lesser};
-ghost use Rattle.names.specs.Sorting.{Passed};
+ghost use Rattle.names.specs.Repeats.{Again, FirstRepeat};
+ghost use Rattle.names.specs.Order.{IsInOrder, sooner};
 ghost use Rattle.std.specs.Prelude.{◌≡◌, Decides};
 ghost use Rattle.std.specs.List.Sorted.{IsPermutation};
 
 pub use compare::same;
 use compare::{bytes, order};
-use heap::sort;
-pub use name::Name;
-use std::cmp::Ordering;
+pub use span::Span;
 
-// So many rows are compared each with each.
-const FEW: usize = 16;
-
-// Whether a row with a smaller start has the same bytes.
-fn repeated(text: &[u8], names: &[Name], name: Name) -> bool
-    ensures { Decides result (Earlier text.now names.now name) }
+// Whether a name has the bytes of another and begins behind it.
+fn repeats(text: &[u8], name: Span, other: Span) -> bool
+    ensures { Decides result (Again text.now other name) }
 {
-    let own = bytes(text, name);
-    for row in names {
-        if row.start < name.start && same(bytes(text, *row), own) {
-            return true;
-        }
-    }
-    false
+    other.start < name.start && same(bytes(text, other), bytes(text, name))
 }
 
-fn least(best: Option<u32>, end: u32) -> Option<u32>
-    ensures { result ≡ lesser best end }
+// The one that ends first.
+fn sooner(found: Option<Span>, name: Span) -> Span
+    ensures { result ≡ sooner found name }
 {
-    match best {
-        Some(q) => { if end < q { Some(end) } else { Some(q) } }
-        None => Some(end),
-    }
+    found.filter(|found| found.end <= name.end).unwrap_or(name)
 }
 
-// Compares each row with each.
-fn pairwise(text: &[u8], names: &[Name]) -> Option<u32>
+// Of names in order, the one that repeats an earlier name and ends first. Some such name stands right behind one that it repeats.
+fn first_beside(text: &[u8], names: &[Span]) -> Option<Span>
+    requires { IsInOrder text.now names.now }
     ensures { FirstRepeat text.now names.now result }
 {
-    let mut best = None;
-    for row in names {
-        if repeated(text, names, *row) {
-            best = least(best, row.end);
+    let mut first: Option<Span> = None;
+    for [left, name] in names.array_windows::<2>() {
+        if repeats(text, *name, *left) {
+            first = Some(sooner(first, *name));
         }
     }
-    best
+    first
 }
 
-// The least end of the rows whose left neighbour has the same bytes, or None where the rows do not lie in order.
-fn neighbours(text: &[u8], names: &[Name]) -> Option<Option<u32>>
-    ensures { Passed text.now names.now result }
-{
-    let mut best = None;
-    for i in 1..names.len() {
-        let left = names[i - 1];
-        let row = names[i];
-        match order(bytes(text, left), bytes(text, row)) {
-            Ordering::Less => {}
-            Ordering::Equal => {
-                if row.start <= left.start {
-                    return None;
-                }
-                best = least(best, row.end);
-            }
-            Ordering::Greater => return None,
-        }
-    }
-    Some(best)
-}
-
-// The closing quote of the first name that repeats an earlier one. The rows may change places.
-// Of many rows n it makes about n log n comparisons, if no two begin at one place.
-pub fn first_repeat(text: &[u8], names: &mut [Name]) -> Option<u32>
+/// The first name that repeats an earlier one: of the names that do, the one whose closing quote stands first. The rows may change places.
+///
+/// Of n rows it makes about n log n comparisons.
+pub fn first_repeat(text: &[u8], names: &mut [Span]) -> Option<Span>
     ensures first { FirstRepeat text.now names.old result }
     ensures rows { IsPermutation names.old names.new }
 {
-    if names.len() <= FEW {
-        return pairwise(text, names);
-    }
-    sort(text, names);
-    match neighbours(text, names) {
-        Some(found) => found,
-        None => pairwise(text, names),
-    }
+    names.sort_unstable_by(|a, b| order(text, *a, *b));
+    first_beside(text, names)
 }

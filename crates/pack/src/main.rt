@@ -3,14 +3,15 @@
 #![tactic(auto)]
 
 use anyhow::anyhow;
-use book::{Book, BookRefusal};
+use book::Book;
+use refused::Refused;
 use std::fs;
 use store::Store;
 
-// The most bytes that a book has.
+/// The most bytes that a book has.
 const LONGEST: usize = 1_048_576;
 
-// The bundle of an open book, written to a file.
+/// The bundle of an open book, written to a file.
 fn write_bundle(rt: &HostRuntime, captures: &Book) -> anyhow::Result<()> {
     let mut bundle = vec![in rt.alloc(); 0u8; packing::size(captures)]?;
     match packing::pack(captures, &mut bundle) {
@@ -19,17 +20,11 @@ fn write_bundle(rt: &HostRuntime, captures: &Book) -> anyhow::Result<()> {
     }
 }
 
-fn print_refusal(rt: &HostRuntime, refusal: BookRefusal) -> anyhow::Result<()> {
-    let number = refusal.number();
-    let cause = refusal.cause();
-    let place = refusal.place();
-    Ok(println!(rt; "R {number} {cause} {place}")?)
-}
-
 fn main(rt: HostRuntime) -> anyhow::Result<()> {
     let text = files::read_file(&rt, "captures.json", LONGEST)?;
     if let Err(refusal) = book::check(&text) {
-        return print_refusal(&rt, refusal);
+        let refused = Refused::from(refusal);
+        return Ok(println!(rt; "{refused}")?);
     }
     let captures = book::open(&text);
     write_bundle(&rt, &captures)?;

@@ -1,5 +1,5 @@
 -- Bytes written over a part of a list.
-use Rattle.std.proofs.Common.{◌≡◌, ℕ, ◌+◌, ◌-◌, ◌≤◌, List, [], ◌++◌, length, take, drop, sym, ap, ◌∙◌, append_assoc, add-zero, zero-add, arith, length-append, take-append-drop}
+use Rattle.std.proofs.Common.{◌≡◌, ℕ, ◌+◌, ◌-◌, ◌≤◌, List, [], ◌++◌, length, take, drop, sym, refl, ap, ◌∙◌, append_assoc, add-zero, zero-add, arith, length-append, take-append-drop}
 use borrow.Rule.Slice.PartMut.{put_mid}
 use Rattle.std.proofs.lemmas.List.{length-take-le, take_at, drop_at, drop-drop}
 use Rattle.packing.specs.Packing.{over}
@@ -55,3 +55,8 @@ module _ (out : List ℕ) (p : ℕ) (s : List ℕ) (room : p ≤ length out) whe
 pub then_over : (out b d : List ℕ) (p q : ℕ) (s t : List ℕ) → p ≤ length out → b ≡ over out p s → q ≡ p + length s → d ≡ over b q t → d ≡ over out p (s ++ t)
 then_over out b d p q s t room first end second =
     second ∙ ap (λ (v : List ℕ). over v q t) first ∙ ap (λ (k : ℕ). over (over out p s) k t) end ∙ over_over out p s room t
+
+-- the first of what is left to write, and the rest behind it
+pub over_step : (out b rest : List ℕ) (p q : ℕ) (first s : List ℕ) → s ≡ first ++ rest → p ≤ length out → b ≡ over out p first → q ≡ p + length first
+    → over b q rest ≡ over out p s
+over_step out b rest p q first s e room one end = then_over out b (over b q rest) p q first rest room one end refl ∙ ap (over out p) (sym e)

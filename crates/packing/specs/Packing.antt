@@ -26,7 +26,3 @@ OpensPacked = (ps : List Pair) (out : List ℕ) (n : ℕ) → Lawful ps → (pac
 -- the buffer with the bytes bs at a place, over what stood there
 unfoldable pub over : List ℕ → ℕ → List ℕ → List ℕ
 over out place bs = take place out ++ (bs ++ drop (place + length bs) out)
-
--- the pair of a path and a body
-abbrev pub pair : List ℕ → List ℕ → Pair
-pair path body = record { path = path; body = body }

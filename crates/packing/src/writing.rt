@@ -1,9 +1,16 @@
-// The parts of a bundle, each written at a place of the buffer.
+//! The parts of a bundle, each written at a place of the buffer.
 ghost use Rattle.std.specs.Prelude.{◌≡◌, ◌+◌, ◌≤◌, ◌++◌, length};
-ghost use Rattle.bundle.specs.Layout.{head, in_two, in_four, record_of};
-ghost use Rattle.packing.specs.Packing.{over, pair};
+ghost use Rattle.store.specs.Lent.{pair_of};
+ghost use Rattle.bundle.specs.Layout.{head, in_two, record_of};
+ghost use Rattle.packing.specs.Packing.{over};
 
-// Writes the bytes at the place, and says where they end.
+use bundle::{FRONT_BYTES, LENGTHS_BYTES, MARK, VERSION};
+use store::pairs::Pair;
+use store::paths::MAX_PATH_BYTES;
+use store::{MAX_BODY_BYTES, MAX_PAIRS};
+
+// Writes the bytes at the place, and says where they end. A buffer that is cut shorter at each step would have to say each time how the writes come
+// back, and be no plainer.
 fn put(out: &mut [u8], place: usize, bytes: &[u8]) -> usize
     requires { place + length bytes.now ≤ length out.old }
     ensures wrote { out.new ≡ over out.old place bytes.now }
@@ -14,42 +21,28 @@ fn put(out: &mut [u8], place: usize, bytes: &[u8]) -> usize
     end
 }
 
-// A count in two bytes, the high one first.
-fn two_bytes(count: usize) -> [u8; 2]
-    requires { count ≤ 1024 }
-    ensures { result ≡ in_two count }
+// Writes the mark, the version and the count, and says where they end.
+pub(crate) fn write_front(out: &mut [u8], count: usize) -> usize
+    requires few { count ≤ MAX_PAIRS }
+    requires room { FRONT_BYTES ≤ length out.old }
+    ensures wrote { out.new ≡ over out.old 0 (head ++ in_two count) }
+    ensures end { result ≡ FRONT_BYTES }
 {
-    (count as u16).to_be_bytes()
-}
-
-// A length in four bytes, the high ones first.
-fn four_bytes(len: usize) -> [u8; 4]
-    requires { len ≤ 1048576 }
-    ensures { result ≡ in_four len }
-{
-    (len as u32).to_be_bytes()
-}
-
-// Writes the head and the count.
-pub(crate) fn write_front(out: &mut [u8], count: usize)
-    requires few { count ≤ 1024 }
-    requires room { 7 ≤ length out.old }
-    ensures { out.new ≡ over out.old 0 (head ++ in_two count) }
-{
-    let place = put(out, 0, &[b'C', b'A', b'P', 0, 1]);
-    put(out, place, &two_bytes(count));
+    let place = put(out, 0, &MARK);
+    let place = put(out, place, &VERSION);
+    put(out, place, &(count as u16).to_be_bytes())
 }
 
 // Writes a record at the place, and says where it ends.
-pub(crate) fn write_record(out: &mut [u8], place: usize, path: &[u8], body: &[u8]) -> usize
-    requires named { length path.now ≤ 255 }
-    requires small { length body.now ≤ 1048576 }
-    requires room { place + (5 + length path.now + length body.now) ≤ length out.old }
-    ensures wrote { out.new ≡ over out.old place (record_of (pair path.now body.now)) }
-    ensures end { result ≡ place + (5 + length path.now + length body.now) }
+pub(crate) fn write_record(out: &mut [u8], place: usize, pair: Pair<'_>) -> usize
+    requires named { length pair.path.now ≤ MAX_PATH_BYTES }
+    requires small { length pair.body.now ≤ MAX_BODY_BYTES }
+    requires room { place + (LENGTHS_BYTES + length pair.path.now + length pair.body.now) ≤ length out.old }
+    ensures wrote { out.new ≡ over out.old place (record_of (pair_of pair.entry)) }
+    ensures end { result ≡ place + (LENGTHS_BYTES + length pair.entry.path.now + length pair.entry.body.now) }
 {
-    let place = put(out, place, &[path.len() as u8]);
-    let place = put(out, place, path);
-    let place = put(out, place, &four_bytes(body.len()));
-    put(out, place, body)
+    let place = put(out, place, &[pair.path.len() as u8]);
+    let place = put(out, place, pair.path);
+    let place = put(out, place, &(pair.body.len() as u32).to_be_bytes());
+    put(out, place, pair.body)
 }

@@ -1,68 +1,82 @@
-// How many clauses there are: a budget is spent, so that no sum can grow too large.
-ghost use Rattle.std.specs.Prelude.{◌≡◌, ℕ, List, length};
-ghost use Rattle.syntax.specs.Walking.{rest_members};
-ghost use Rattle.requirement.specs.Clause.{flat, property_clauses, schema_clauses};
-ghost use Rattle.terms.specs.Places.{member_here};
-ghost use Rattle.profile.specs.Counting.{spend};
+// How many clauses there are. No count goes past the greatest number.
+ghost use Rattle.std.specs.Prelude.{◌≡◌, ℕ, length};
+ghost use Rattle.syntax.specs.Walking.{Member as MemberSpelled};
+ghost use Rattle.requirement.specs.Clause.{clauses as clauses_of};
+ghost use Rattle.walk.specs.Told.{spelled, member_spelled, members_left};
+ghost use Rattle.terms.specs.Stated.{version_stated};
+ghost use Rattle.profile.specs.Counting.{capped, total as total_of, nested_count, property_count, own_count, schema_count};
 
-use terms::{member, members, properties, stated_version};
-use walk::Member;
+use terms::{properties, schemas, stated_version};
+use walk::{Member, Members, Value};
 
-// What is left of a budget after so many, where it has as much.
-fn spent(n: usize, budget: usize) -> Option<usize>
-    ensures { result ≡ spend n budget }
-{
-    budget.checked_sub(n)
+// Members of one kind, each of which stands for some clauses.
+trait Counted {
+    ghost number: { MemberSpelled → ℕ };
+
+    fn count(member: Member) -> usize
+        ensures { result ≡ number (member_spelled member.entry) };
 }
 
-// The same after the members to come.
-fn spend_members(text: &[u8], first: Option<usize>, budget: usize) -> Option<usize>
-    ensures { result ≡ spend (length (rest_members text.now first)) budget }
+// So many clauses, and those of the members.
+fn total<C: Counted>(own: usize, members: Members) -> usize
+    ensures { result ≡ total_of C.number own (members_left members.entry) }
 {
-    let mut left = budget;
-    let mut next = first;
-    while let Some(m) = member(text, next) {
-        left = spent(1, left)?;
-        next = m.next;
+    let mut count = own;
+    for member in members {
+        count = count.saturating_add(C::count(member));
     }
-    Some(left)
+    count
 }
 
-// The same after the clauses of the properties to come, whatever their schema is called.
-fn spend_properties(text: &[u8], first: Option<usize>, budget: usize) -> Option<usize>
-    ensures { (schema : List ℕ) → result ≡ spend (length (flat (property_clauses schema) (rest_members text.now first))) budget }
-{
-    let mut left = budget;
-    let mut next = first;
-    while let Some(m) = member(text, next) {
-        let inner = properties(text, m.value.start);
-        left = spend_members(text, inner, spent(1, left)?)?;
-        next = m.next;
-    }
-    Some(left)
-}
+// A property in a property has one clause.
+struct NestedProperty;
 
-// The same after the clauses of one schema entry.
-fn spend_schema(text: &[u8], m: Member, budget: usize) -> Option<usize>
-    ensures { result ≡ spend (length (schema_clauses (member_here text.now m))) budget }
-{
-    let at = m.value.start;
-    let first = properties(text, at);
-    match stated_version(text, members(text, at)) {
-        Some(_) => spend_properties(text, first, spent(2, budget)?),
-        None => spend_properties(text, first, spent(1, budget)?),
+impl Counted for NestedProperty {
+    ghost number = { nested_count };
+
+    fn count(_: Member) -> usize {
+        1
     }
 }
 
-// The same after the clauses of the schema entries to come.
-pub(crate) fn spend_schemas(text: &[u8], first: Option<usize>, budget: usize) -> Option<usize>
-    ensures { result ≡ spend (length (flat schema_clauses (rest_members text.now first))) budget }
-{
-    let mut left = budget;
-    let mut next = first;
-    while let Some(m) = member(text, next) {
-        left = spend_schema(text, m, left)?;
-        next = m.next;
+// A property has one clause, and those of the properties inside it.
+struct Property;
+
+impl Counted for Property {
+    ghost number = { property_count };
+
+    fn count(member: Member) -> usize {
+        total::<NestedProperty>(1, properties(member.value.members_or_none()))
     }
-    Some(left)
+}
+
+// A schema entry has a clause for its presence, one for its version where it states one, and those of its properties.
+struct Schema;
+
+impl Counted for Schema {
+    ghost number = { schema_count };
+
+    fn count(member: Member) -> usize {
+        let members = member.value.members_or_none();
+        total::<Property>(own_clauses(members), properties(members))
+    }
+}
+
+// The clauses of a schema entry without those of its properties.
+#[tactic(auto, using(crate::proofs::Counts::own_two, crate::proofs::Counts::own_one))]
+fn own_clauses(members: Members) -> usize
+    ensures { result ≡ own_count (version_stated (members_left members.entry)) }
+{
+    match stated_version(members) {
+        Some(_) => 2,
+        None => 1,
+    }
+}
+
+// The clauses of a profile.
+#[tactic(auto, using(crate::proofs::Counts::profile_long))]
+pub(crate) fn clauses(profile: Value) -> usize
+    ensures { result ≡ capped (length (clauses_of (spelled profile.entry))) }
+{
+    total::<Schema>(0, schemas(profile))
 }

@@ -10,28 +10,26 @@ mod counting;
 mod entries;
 mod schemas;
 
-use counting::spend_schemas;
+use counting::clauses;
 use requirement::ProfileFault;
 use schemas::check;
+use walk::Value;
 
 // The most clauses that a profile has.
 const MOST: usize = 1_024;
 
-// Reads a profile: a text, every member as the rules have it, and at most 1,024 clauses. Answers how many.
+/// Reads a profile: a text, every member as the rules have it, and at most 1,024 clauses. Answers how many.
+#[tactic(auto, using(requirement::proofs::Stands::laws))]
 pub fn read(profile: &[u8]) -> Result<usize, ProfileFault>
     ensures is { result ≡ counted (reading_profile profile.now) }
     ensures laws { Laws }
 {
-    count_clauses(profile)
-}
-
-fn count_clauses(profile: &[u8]) -> Result<usize, ProfileFault>
-    ensures { result ≡ counted (reading_profile profile.now) }
-{
-    text::read(profile)?;
-    check(profile, 0)?;
-    match spend_schemas(profile, terms::schemas(profile, 0), MOST) {
-        Some(left) => Ok(MOST - left),
-        None => Err(ProfileFault::TooMany),
+    let root = Value::read(profile)?;
+    check(root)?;
+    let count = clauses(root);
+    if count <= MOST {
+        Ok(count)
+    } else {
+        Err(ProfileFault::TooMany)
     }
 }

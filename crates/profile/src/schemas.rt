@@ -1,71 +1,64 @@
 // Schema entries, and the profile around them.
 ghost use Rattle.std.specs.Prelude.{◌≡◌};
-ghost use Rattle.requirement.specs.Check.{schema_member, schema as lawful_schema, resources as lawful_resources, profile as lawful_profile};
-ghost use Rattle.terms.specs.Places.{value_here, member_here};
+ghost use Rattle.requirement.specs.Check.{schema_member, resources_member, profile_member, profile as profile_checked};
+ghost use Rattle.walk.specs.Told.{spelled};
 
-use crate::entries::entry_map;
-use checks::{Check, level, unlawful, version};
+use crate::entries::{Entry, FirstLevel, property_map};
+use checks::{Check, MemberRule, level, members, version};
 use requirement::{ProfileFault, SchemaMember};
-use terms::{member, members, schema_name};
-use walk::{Member, letters, same};
+use terms::{SchemaNames, Words};
+use walk::{Member, Value, same};
 
-// One member of a schema entry.
-fn schema_part(text: &[u8], m: Member) -> Check
-    ensures { result ≡ schema_member (member_here text.now m) }
-{
-    let at = m.value.start;
-    match schema_name(letters(text, m.name)) {
-        Some(SchemaMember::MinVersion) => version(text, at),
-        Some(SchemaMember::ReadRequirement) => level(text, at),
-        Some(SchemaMember::PropertyRequirements) => entry_map(text, at),
-        Some(SchemaMember::Skipped) => Ok(()),
-        None => Err(ProfileFault::Unnamed(m.name.start)),
-    }
-}
+// The members of a schema entry.
+#[derive(Clone, Copy)]
+struct Schema;
 
-// A schema entry.
-fn schema(text: &[u8], at: usize) -> Check
-    ensures { result ≡ lawful_schema (value_here text.now at) }
-{
-    let Some(first) = members(text, at) else {
-        return Err(unlawful(text, at));
-    };
-    let mut next = Some(first);
-    while let Some(m) = member(text, next) {
-        schema_part(text, m)?;
-        next = m.next;
+impl MemberRule for Schema {
+    ghost member_checked = { λ _. schema_member };
+
+    fn check_member(&self, member: Member) -> Check {
+        let value = member.value;
+        match SchemaNames::meaning(member.name.bytes) {
+            Some(SchemaMember::MinVersion) => version(value),
+            Some(SchemaMember::ReadRequirement) => level(value),
+            Some(SchemaMember::PropertyRequirements) => property_map(Entry(FirstLevel), value),
+            Some(SchemaMember::Skipped) => Ok(()),
+            None => Err(ProfileFault::Unnamed(member.name.place)),
+        }
     }
-    Ok(())
 }
 
 // The schema entries, whatever their names.
-fn resources(text: &[u8], at: usize) -> Check
-    ensures { result ≡ lawful_resources (value_here text.now at) }
-{
-    let Some(first) = members(text, at) else {
-        return Err(unlawful(text, at));
-    };
-    let mut next = Some(first);
-    while let Some(m) = member(text, next) {
-        schema(text, m.value.start)?;
-        next = m.next;
+#[derive(Clone, Copy)]
+struct Resources;
+
+impl MemberRule for Resources {
+    ghost member_checked = { λ _. resources_member };
+
+    fn check_member(&self, member: Member) -> Check {
+        members(&Schema, member.value)
     }
-    Ok(())
 }
 
-// A profile: what stands beside `Resources` is skipped.
-pub(crate) fn check(text: &[u8], at: usize) -> Check
-    ensures { result ≡ lawful_profile (value_here text.now at) }
-{
-    let Some(first) = members(text, at) else {
-        return Err(unlawful(text, at));
-    };
-    let mut next = Some(first);
-    while let Some(m) = member(text, next) {
-        if same(letters(text, m.name), b"Resources") {
-            resources(text, m.value.start)?;
+// The members of a profile: what stands beside `Resources` is skipped.
+#[derive(Clone, Copy)]
+struct Profile;
+
+impl MemberRule for Profile {
+    ghost member_checked = { λ _. profile_member };
+
+    fn check_member(&self, member: Member) -> Check {
+        if same(member.name.bytes, b"Resources") {
+            members(&Resources, member.value)
+        } else {
+            Ok(())
         }
-        next = m.next;
     }
-    Ok(())
+}
+
+// A profile.
+pub(crate) fn check(value: Value) -> Check
+    ensures { result ≡ profile_checked (spelled value.entry) }
+{
+    members(&Profile, value)
 }

@@ -2,11 +2,12 @@
 use crate::gaps::{Gap, first_gap};
 use crate::shown::Shown;
 use crate::spot::Spot;
-use crate::trail::{Trail, follow};
+use crate::trail::{At, Trail, follow};
 use crate::words::Role;
+use requirement::ProfileFault;
 use std::alloc::{AllocError, Global};
 use std::fmt;
-use text::Kind;
+use text::{Cause, Fault};
 
 // What is said of a refusal.
 #[derive(Drop)]
@@ -61,43 +62,35 @@ impl fmt::Display for Saying<'_> {
 
 const UNKNOWN: Saying<'static> = Saying::Plain("this is not accepted here");
 
-// The line that explains a refusal by its number, the cause of a text fault or 0, and the place. The numbers: 13 a text fault; 14 a value of the wrong kind or
-// range, or an object with a gap or a clash; 15 an unnamed member or word, or a property name with a slash in front; 16 too many clauses.
-pub fn explain(
-    heap: Global,
-    text: &[u8],
-    number: u8,
-    cause: u8,
-    place: usize,
-) -> Result<String, AllocError> {
-    let spot = Spot::at(text, place);
-    let saying = match number {
-        13 => of_text(text, cause, place),
-        14 => of_value(text, place),
-        15 => of_quote(text, place),
-        16 => Saying::Plain("the profile has more than 1,024 clauses"),
-        _ => UNKNOWN,
+/// The line that explains why a text is no profile.
+pub fn explain(heap: Global, text: &[u8], fault: ProfileFault) -> Result<String, AllocError> {
+    let (place, saying) = match fault {
+        ProfileFault::Text(fault) => (fault.place, of_text(text, fault)),
+        ProfileFault::Unlawful(place) => (place, of_value(text, place)),
+        ProfileFault::Unnamed(place) => (place, of_quote(text, place)),
+        ProfileFault::TooMany => (0, Saying::Plain("the profile has more than 1,024 clauses")),
     };
+    let spot = Spot::at(text, place);
     format!(in heap; "{spot}: {saying}")
 }
 
 // A text fault.
-fn of_text(text: &[u8], cause: u8, place: usize) -> Saying<'_> {
+fn of_text(text: &[u8], Fault { cause, place }: Fault) -> Saying<'_> {
     match cause {
-        1 => Saying::Plain("the text is longer than 1,048,576 bytes"),
-        2 if place >= text.len() => Saying::Plain("the text ends early"),
-        2 => Saying::Plain("the text is no JSON from here on"),
-        3 => Saying::Plain(
+        Cause::TooLong => Saying::Plain("the text is longer than 1,048,576 bytes"),
+        Cause::Malformed if place >= text.len() => Saying::Plain("the text ends early"),
+        Cause::Malformed => Saying::Plain("the text is no JSON from here on"),
+        Cause::TooDeep => Saying::Plain(
             "an array or object opens here inside sixteen others; at most fifteen are accepted",
         ),
-        4 => Saying::RepeatedName(name_before(text, place)),
-        _ => UNKNOWN,
+        Cause::RepeatedName => Saying::RepeatedName(name_before(text, place)),
     }
 }
 
 // The bytes of the name whose closing quote stands at the place. The quote that opens it has no backslash before it, and each quote between has one.
 fn name_before(text: &[u8], place: usize) -> &[u8] {
     let end = place.min(text.len());
+    // by place: each quote is looked at with the byte before it
     for i in (0..end).rev() {
         if text[i] == b'"' && (i == 0 || text[i - 1] != b'\\') {
             return &text[i + 1..end];
@@ -111,8 +104,8 @@ fn of_value(text: &[u8], place: usize) -> Saying<'_> {
     let Some(trail) = follow(text, place) else {
         return UNKNOWN;
     };
-    if matches!(trail.value.kind, Kind::Object)
-        && let Some(gap) = first_gap(text, trail.role, trail.value)
+    if let Some(members) = trail.value.members()
+        && let Some(gap) = first_gap(trail.role, members)
     {
         return Saying::Gap(trail, gap);
     }
@@ -128,27 +121,27 @@ fn of_value(text: &[u8], place: usize) -> Saying<'_> {
 // An unnamed member or word, or the name of a property that begins with a slash.
 fn of_quote(text: &[u8], place: usize) -> Saying<'_> {
     match follow(text, place) {
-        Some(trail) if trail.at_name => of_name(trail),
-        Some(trail) => of_string(text, trail),
+        Some(trail) if trail.at == At::Name => of_name(trail),
+        Some(trail) => of_string(trail),
         None => UNKNOWN,
     }
 }
 
 // The name of a member.
 fn of_name(trail: Trail<'_>) -> Saying<'_> {
-    if matches!(trail.holder, Role::Properties) {
+    if matches!(trail.holder, Role::Properties | Role::NestedProperties) {
         return Saying::SlashedName(trail);
     }
-    match trail.holder.members(trail.around.is_nested()) {
+    match trail.holder.members() {
         Some(members) => Saying::OtherMember(trail, members),
         None => UNKNOWN,
     }
 }
 
 // A string that is a value.
-fn of_string<'a>(text: &'a [u8], trail: Trail<'a>) -> Saying<'a> {
-    match trail.role.strings() {
-        Some(strings) => Saying::OtherString(trail, walk::letters(text, trail.value), strings),
-        None => UNKNOWN,
+fn of_string(trail: Trail<'_>) -> Saying<'_> {
+    match (trail.value.as_string(), trail.role.strings()) {
+        (Some(string), Some(strings)) => Saying::OtherString(trail, string, strings),
+        _ => UNKNOWN,
     }
 }

@@ -1,13 +1,11 @@
 // What is missing in a property entry or a condition, or does not go together there.
 use crate::shown::Shown;
-use crate::trail::inside;
 use crate::words::{Role, Takes};
 use std::fmt;
-use text::{Kind, Part};
-use walk::find;
+use walk::{Members, Value};
 
 // A member that names a comparison, and the one with the values for it.
-#[derive(Clone, Copy)]
+#[derive(Clone, Copy, Debug, PartialEq, Eq)]
 pub struct Pair {
     word: &'static str,
     values: &'static str,
@@ -25,7 +23,7 @@ const TESTED: Pair = Pair {
 };
 
 // Why an object whose members are each accepted is not.
-#[derive(Clone, Copy)]
+#[derive(Clone, Copy, Debug, PartialEq, Eq)]
 pub enum Gap<'a> {
     NoTest,
     Lacks(&'static str, &'static str),
@@ -58,33 +56,31 @@ impl fmt::Display for Gap<'_> {
     }
 }
 
-// The first gap or clash of an object that is a property entry or a condition.
-pub fn first_gap(text: &[u8], role: Role, object: Part) -> Option<Gap<'_>> {
-    let at = inside(object);
+/// The first gap or clash of an object that is a property entry or a condition.
+pub fn first_gap(role: Role, members: Members<'_>) -> Option<Gap<'_>> {
     match role {
-        Role::Property => asked_gap(text, at).or(clash(text, at, ASKED)),
-        Role::Condition => test_gap(text, at)
-            .or(asked_gap(text, at))
-            .or(clash(text, at, TESTED))
-            .or(clash(text, at, ASKED)),
+        Role::Property | Role::NestedProperty => asked_gap(members).or(clash(members, ASKED)),
+        Role::Condition => test_gap(members)
+            .or(asked_gap(members))
+            .or(clash(members, TESTED))
+            .or(clash(members, ASKED)),
         _ => None,
     }
 }
 
-// What is missing of the test of a condition whose members begin at `at`.
-fn test_gap(text: &[u8], at: usize) -> Option<Gap<'_>> {
-    let above = find(text, at, b"SubordinateToResource").is_some();
-    let property = find(text, at, b"CompareProperty").is_some();
-    if !above && !property {
+// What is missing of the test of a condition.
+fn test_gap(members: Members<'_>) -> Option<Gap<'_>> {
+    let property = members.get(b"CompareProperty");
+    let values = members.get(b"CompareValues");
+    if members.get(b"SubordinateToResource").or(property).is_none() {
         return Some(Gap::NoTest);
     }
-    let values = find(text, at, b"CompareValues").is_some();
-    match find(text, at, b"CompareType") {
-        None if property => Some(Gap::Lacks("CompareProperty", "CompareType")),
-        None if values => Some(Gap::Lacks("CompareValues", "CompareType")),
-        Some(_) if !property => Some(Gap::Lacks("CompareType", "CompareProperty")),
-        Some(word) if !values => no_values(walk::letters(text, word)),
-        _ => None,
+    match (property, members.get(b"CompareType"), values) {
+        (Some(_), None, _) => Some(Gap::Lacks("CompareProperty", "CompareType")),
+        (None, None, Some(_)) => Some(Gap::Lacks("CompareValues", "CompareType")),
+        (None, Some(_), _) => Some(Gap::Lacks("CompareType", "CompareProperty")),
+        (Some(_), Some(word), None) => no_values(word.as_string()?),
+        (None, None, None) | (Some(_), Some(_), Some(_)) => None,
     }
 }
 
@@ -96,20 +92,20 @@ fn no_values(word: &[u8]) -> Option<Gap<'_>> {
     }
 }
 
-// What is missing of the comparison that is asked for, where the members begin at `at`.
-fn asked_gap(text: &[u8], at: usize) -> Option<Gap<'_>> {
-    let _ = find(text, at, b"Comparison")?;
-    match find(text, at, b"Values") {
+// What is missing of the comparison that is asked for.
+fn asked_gap(members: Members<'_>) -> Option<Gap<'_>> {
+    let _ = members.get(b"Comparison")?;
+    match members.get(b"Values") {
         Some(_) => None,
         None => Some(Gap::Lacks("Comparison", "Values")),
     }
 }
 
 // Whether the values of a pair are none that its word takes.
-fn clash(text: &[u8], at: usize, pair: Pair) -> Option<Gap<'_>> {
-    let word = walk::letters(text, find(text, at, pair.word.as_bytes())?);
-    let values = find(text, at, pair.values.as_bytes())?;
-    if fits(text, Takes::of(word)?, values) {
+fn clash(members: Members<'_>, pair: Pair) -> Option<Gap<'_>> {
+    let word = members.get(pair.word.as_bytes())?.as_string()?;
+    let values = members.get(pair.values.as_bytes())?;
+    if fits(Takes::of(word)?, values) {
         None
     } else {
         Some(Gap::Clash(pair, word))
@@ -117,24 +113,20 @@ fn clash(text: &[u8], at: usize, pair: Pair) -> Option<Gap<'_>> {
 }
 
 // Whether a comparison takes the values in an array.
-fn fits(text: &[u8], takes: Takes, values: Part) -> bool {
-    match (takes, only_item(text, values)) {
-        (Takes::Several | Takes::Nothing, _) => true,
-        (Takes::One, item) => item.is_some(),
-        (Takes::OneWhole, Some(item)) => is_whole(text, item),
-        (Takes::OneWhole, None) => false,
+fn fits(takes: Takes, values: Value) -> bool {
+    match takes {
+        Takes::Several | Takes::Nothing => true,
+        Takes::One => only_item(values).is_some(),
+        Takes::OneWhole => only_item(values).and_then(Value::as_whole).is_some(),
     }
 }
 
 // The item of an array that has just one.
-fn only_item(text: &[u8], array: Part) -> Option<Part> {
-    let item = walk::item(text, inside(array))?;
-    match item.next {
-        None => Some(item.value),
+fn only_item(array: Value<'_>) -> Option<Value<'_>> {
+    let mut items = array.items()?;
+    let item = items.next()?;
+    match items.next() {
+        None => Some(item),
         Some(_) => None,
     }
-}
-
-fn is_whole(text: &[u8], value: Part) -> bool {
-    matches!(value.kind, Kind::Number) && walk::whole(walk::digits(text, value)).is_some()
 }

@@ -10,6 +10,7 @@ mod trail;
 mod words;
 
 use explain::explain;
+use refused::Refused;
 use requirement::ProfileFault;
 use std::io;
 
@@ -17,10 +18,13 @@ use std::io;
 const LONGEST: usize = 1_048_576;
 
 fn print_fault(rt: &HostRuntime, text: &[u8], fault: ProfileFault) -> io::Result<()> {
-    let number = fault.number();
-    let cause = fault.cause();
-    let place = fault.place();
-    let words = explain(rt.alloc(), text, number, cause, place)?;
+    // without the `R` of a line by itself
+    let Refused {
+        number,
+        cause,
+        place,
+    } = Refused::from(fault);
+    let words = explain(rt.alloc(), text, fault)?;
     println!(rt; "{number} {cause} {place}\n{words}")
 }
 

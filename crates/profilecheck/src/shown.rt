@@ -5,7 +5,7 @@ use std::fmt;
 const LONGEST: usize = 60;
 
 // The bytes between a string's quotes: what is no printable ASCII shows as `?`, and a long string is cut.
-#[derive(Clone, Copy)]
+#[derive(Clone, Copy, Debug, PartialEq, Eq)]
 pub struct Shown<'a>(pub &'a [u8]);
 
 impl fmt::Display for Shown<'_> {

@@ -2,7 +2,7 @@
 use std::fmt;
 
 // A line and a column, from 1; columns count bytes.
-#[derive(Clone, Copy)]
+#[derive(Clone, Copy, Debug, PartialEq, Eq)]
 pub struct Spot {
     line: usize,
     column: usize,

@@ -2,14 +2,13 @@
 use crate::shown::Shown;
 use crate::words::Role;
 use std::fmt;
-use text::{Kind, Part};
-use walk::Member;
+use walk::{Items, Member, Members, Value};
 
 // The most steps from the outermost value to another: an array or object stands inside at most fifteen others.
 const DEEPEST: usize = 16;
 
 // A property of a schema, or one nested in a property.
-#[derive(Clone, Copy)]
+#[derive(Clone, Copy, Debug, PartialEq, Eq)]
 pub struct Property<'a> {
     schema: &'a [u8],
     parent: Option<&'a [u8]>,
@@ -34,7 +33,7 @@ impl fmt::Display for Property<'_> {
 }
 
 // A part of a profile that is told by the names on the way to it.
-#[derive(Clone, Copy)]
+#[derive(Clone, Copy, Debug, PartialEq, Eq)]
 pub enum Entry<'a> {
     Profile,
     Schema(&'a [u8]),
@@ -52,21 +51,13 @@ impl<'a> Entry<'a> {
                 parent: None,
                 name,
             }),
-            (Role::Property, Entry::Property(outer)) => Entry::Property(Property {
+            (Role::NestedProperty, Entry::Property(outer)) => Entry::Property(Property {
                 schema: outer.schema,
                 parent: Some(outer.name),
                 name,
             }),
             (Role::Condition, Entry::Property(property)) => Entry::Condition(property),
             _ => self,
-        }
-    }
-
-    // Whether it is the entry of a property in a property.
-    pub fn is_nested(self) -> bool {
-        match self {
-            Entry::Property(property) => property.parent.is_some(),
-            _ => false,
         }
     }
 }
@@ -85,91 +76,96 @@ impl fmt::Display for Entry<'_> {
     }
 }
 
-// What stands at a place of a profile: a value, or the name of a member.
+/// What a place of a profile is the place of.
+#[derive(Clone, Copy, Debug, PartialEq, Eq)]
+pub enum At {
+    /// The name of a member.
+    Name,
+    /// A value, which is the outermost or a member's.
+    Value,
+    /// An item of an array, by its number from 1.
+    Item(usize),
+}
+
+/// What stands at a place of a profile: a value, or the name of a member.
+// no Debug and no comparison: either would go through the bytes of the profile
 #[derive(Clone, Copy)]
 pub struct Trail<'a> {
-    // The entry around it.
+    /// The entry around it.
     pub around: Entry<'a>,
-    // The object or array around it.
+    /// The object or array around it.
     pub holder: Role,
-    // The member's name, or that of the array, of which it is an item.
+    /// The member's name, or that of the array, of which it is an item.
     pub name: &'a [u8],
-    pub item: Option<usize>,
-    // The value, or the member's value.
+    /// The value, or the member's value.
     pub role: Role,
-    pub value: Part,
-    // Whether the place is the name's.
-    pub at_name: bool,
+    pub value: Value<'a>,
+    pub at: At,
 }
 
 impl<'a> Trail<'a> {
-    fn outermost(value: Part) -> Trail<'a> {
+    fn outermost(value: Value<'a>) -> Trail<'a> {
         Trail {
             around: Entry::Profile,
             holder: Role::Other,
             name: b"",
-            item: None,
             role: Role::Profile,
             value,
-            at_name: false,
+            at: At::Value,
         }
     }
 
-    // The entry that the value is, or else the one around it.
+    /// The entry that the value is, or else the one around it.
     pub fn entry(self) -> Entry<'a> {
         self.around.inner(self.role, self.name)
     }
 
     // Whether it has come to the place.
     fn has_come(self, place: usize) -> bool {
-        self.at_name || self.value.start == place
+        self.at == At::Name || self.value.start() == place
     }
 
     // On to the member or the item that reaches past the place.
-    fn step(self, text: &'a [u8], place: usize) -> Option<Trail<'a>> {
-        match self.value.kind {
-            Kind::Object => {
-                let member = member_over(text, self.value, place)?;
-                Some(self.to_member(text, member, place))
-            }
-            Kind::Array => {
-                let (number, value) = item_over(text, self.value, place)?;
-                Some(self.to_item(number, value))
-            }
-            _ => None,
+    fn step(self, place: usize) -> Option<Trail<'a>> {
+        if let Some(members) = self.value.members() {
+            return Some(self.to_member(member_over(members, place)?, place));
         }
+        let (number, value) = item_over(self.value.items()?, place)?;
+        Some(self.to_item(number, value))
     }
 
-    fn to_member(self, text: &'a [u8], member: Member, place: usize) -> Trail<'a> {
+    fn to_member(self, member: Member<'a>, place: usize) -> Trail<'a> {
         let around = self.entry();
-        let name = walk::letters(text, member.name);
+        let name = member.name.bytes;
         Trail {
             around,
             holder: self.role,
             name,
-            item: None,
-            role: self.role.member(around.is_nested(), name),
+            role: self.role.member(name),
             value: member.value,
-            at_name: member.name.start == place,
+            at: if member.name.place == place {
+                At::Name
+            } else {
+                At::Value
+            },
         }
     }
 
-    fn to_item(self, number: usize, value: Part) -> Trail<'a> {
+    fn to_item(self, number: usize, value: Value<'a>) -> Trail<'a> {
         Trail {
             around: self.around,
             holder: self.role,
             name: self.name,
-            item: Some(number),
             role: self.role.item(),
             value,
-            at_name: false,
+            at: At::Item(number),
         }
     }
 
     fn is_entry(self) -> bool {
         match self.role {
-            Role::Profile | Role::Schema | Role::Property => true,
-            Role::Condition => matches!(self.value.kind, Kind::Object),
+            Role::Profile | Role::Schema | Role::Property | Role::NestedProperty => true,
+            Role::Condition => self.value.members().is_some(),
             _ => false,
         }
     }
@@ -184,52 +180,40 @@ impl fmt::Display for Trail<'_> {
         }
         let name = Shown(self.name);
         let around = self.around;
-        match self.item {
-            Some(number) => write!(f, "item {number} of `{name}` in {around}"),
-            None => write!(f, "`{name}` in {around}"),
+        match self.at {
+            At::Item(number) => write!(f, "item {number} of `{name}` in {around}"),
+            At::Name | At::Value => write!(f, "`{name}` in {around}"),
         }
     }
 }
 
-// The place behind the bracket that opens an array or object.
-pub fn inside(part: Part) -> usize {
-    part.start.saturating_add(1)
+// The first member that reaches past the place.
+fn member_over(members: Members<'_>, place: usize) -> Option<Member<'_>> {
+    let mut members = members;
+    members.find(|member| place < member.value.end())
 }
 
-// The first member of an object that reaches past the place.
-fn member_over(text: &[u8], object: Part, place: usize) -> Option<Member> {
-    let mut at = inside(object);
-    for _ in 0..text.len() {
-        let member = walk::member(text, at)?;
-        if place < member.value.end {
-            return Some(member);
+// The number, from 1, and the value of the first item that reaches past the place.
+fn item_over(items: Items<'_>, place: usize) -> Option<(usize, Value<'_>)> {
+    // counted by hand: `enumerate` asks for a proof that the count fits
+    let mut number: usize = 0;
+    for item in items {
+        number = number.saturating_add(1);
+        if place < item.end() {
+            return Some((number, item));
         }
-        at = member.next?;
     }
     None
 }
 
-// The number, from 1, and the value of the first item of an array that reaches past the place.
-fn item_over(text: &[u8], array: Part, place: usize) -> Option<(usize, Part)> {
-    let mut at = inside(array);
-    for i in 0..text.len() {
-        let item = walk::item(text, at)?;
-        if place < item.value.end {
-            return Some((i + 1, item.value));
-        }
-        at = item.next?;
-    }
-    None
-}
-
-// What stands at the place, if a value or a name begins there.
+/// What stands at the place, if a value or a name begins there.
 pub fn follow(text: &[u8], place: usize) -> Option<Trail<'_>> {
-    let mut trail = Trail::outermost(text::value(text, 0)?);
+    let mut trail = Trail::outermost(Value::at(text, 0)?);
     for _ in 0..=DEEPEST {
         if trail.has_come(place) {
             return Some(trail);
         }
-        trail = trail.step(text, place)?;
+        trail = trail.step(place)?;
     }
     None
 }

@@ -1,8 +1,10 @@
 // What the values of a profile are, by the objects and names under which they stand, and what is accepted as each.
+use requirement::{CommonMember, ConditionMember, EntryMember, Operator, SchemaMember, TestWord};
+use terms::{ConditionNames, EntryNames, NestedNames, SchemaNames, TestWords, Words};
 use walk::same;
 
 // What a value of a profile is.
-#[derive(Clone, Copy)]
+#[derive(Clone, Copy, Debug, PartialEq, Eq)]
 pub enum Role {
     Profile,
     Resources,
@@ -11,6 +13,8 @@ pub enum Role {
     Level,
     Properties,
     Property,
+    NestedProperties,
+    NestedProperty,
     Count,
     Comparison,
     CompareType,
@@ -26,14 +30,16 @@ pub enum Role {
 }
 
 impl Role {
-    // What the value of a member of that name is, in an object of this role; a nested property entry has no entries below it.
-    pub fn member(self, nested: bool, name: &[u8]) -> Role {
+    /// What the value of a member of that name is, in an object of this role.
+    pub fn member(self, name: &[u8]) -> Role {
         match self {
             Role::Profile => in_profile(name),
             Role::Resources => Role::Schema,
             Role::Schema => in_schema(name),
             Role::Properties => Role::Property,
-            Role::Property => in_property(nested, name),
+            Role::Property => in_property(EntryNames::meaning(name)),
+            Role::NestedProperties => Role::NestedProperty,
+            Role::NestedProperty => in_property(NestedNames::meaning(name)),
             Role::Condition => in_condition(name),
             _ => Role::Other,
         }
@@ -52,9 +58,15 @@ impl Role {
     // What is accepted as such a value, but for those that take only some strings.
     pub fn wanted(self) -> Option<&'static str> {
         match self {
-            Role::Profile | Role::Schema | Role::Property | Role::Condition => Some("an object"),
+            Role::Profile
+            | Role::Schema
+            | Role::Property
+            | Role::NestedProperty
+            | Role::Condition => Some("an object"),
             Role::Resources => Some("an object of schema entries by schema name"),
-            Role::Properties => Some("an object of property entries by property name"),
+            Role::Properties | Role::NestedProperties => {
+                Some("an object of property entries by property name")
+            }
             Role::Version => Some(
                 "a string of two or three parts joined by dots, each one to five digits and at most 65535",
             ),
@@ -88,12 +100,12 @@ impl Role {
     }
 
     // The members that are accepted in such an object, of which not every name is.
-    pub fn members(self, nested: bool) -> Option<&'static str> {
+    pub fn members(self) -> Option<&'static str> {
         match self {
             Role::Schema => Some(
                 "MinVersion, ReadRequirement, PropertyRequirements (read) and Repository, Purpose, CreateResource, DeleteResource, UpdateResource (skipped)",
             ),
-            Role::Property if nested => Some(
+            Role::NestedProperty => Some(
                 "ReadRequirement, MinCount, Comparison, Values, ReplacedByProperty, ReplacesProperty, ConditionalRequirements (read) and Purpose, WriteRequirement, MinSupportValues (skipped)",
             ),
             Role::Property => Some(
@@ -116,60 +128,49 @@ fn in_profile(name: &[u8]) -> Role {
 }
 
 fn in_schema(name: &[u8]) -> Role {
-    if same(name, b"MinVersion") {
-        Role::Version
-    } else if same(name, b"ReadRequirement") {
-        Role::Level
-    } else if same(name, b"PropertyRequirements") {
-        Role::Properties
-    } else {
-        Role::Other
+    match SchemaNames::meaning(name) {
+        Some(SchemaMember::MinVersion) => Role::Version,
+        Some(SchemaMember::ReadRequirement) => Role::Level,
+        Some(SchemaMember::PropertyRequirements) => Role::Properties,
+        Some(SchemaMember::Skipped) | None => Role::Other,
     }
 }
 
-fn in_property(nested: bool, name: &[u8]) -> Role {
-    if same(name, b"ReplacedByProperty") || same(name, b"ReplacesProperty") {
-        Role::PropertyName
-    } else if same(name, b"ConditionalRequirements") {
-        Role::Conditions
-    } else if same(name, b"PropertyRequirements") && !nested {
-        Role::Properties
-    } else {
-        in_either(name)
+// The members of property entries.
+fn in_property(member: Option<EntryMember>) -> Role {
+    match member {
+        Some(EntryMember::ReplacedByProperty | EntryMember::ReplacesProperty) => Role::PropertyName,
+        Some(EntryMember::ConditionalRequirements) => Role::Conditions,
+        Some(EntryMember::PropertyRequirements) => Role::NestedProperties,
+        Some(EntryMember::Common(member)) => in_either(member),
+        None => Role::Other,
     }
 }
 
 fn in_condition(name: &[u8]) -> Role {
-    if same(name, b"SubordinateToResource") {
-        Role::SchemaNames
-    } else if same(name, b"CompareProperty") {
-        Role::PropertyName
-    } else if same(name, b"CompareType") {
-        Role::CompareType
-    } else if same(name, b"CompareValues") {
-        Role::Values
-    } else {
-        in_either(name)
+    match ConditionNames::meaning(name) {
+        Some(ConditionMember::SubordinateToResource) => Role::SchemaNames,
+        Some(ConditionMember::CompareProperty) => Role::PropertyName,
+        Some(ConditionMember::CompareType) => Role::CompareType,
+        Some(ConditionMember::CompareValues) => Role::Values,
+        Some(ConditionMember::Common(member)) => in_either(member),
+        None => Role::Other,
     }
 }
 
 // The members that property entries and conditions share.
-fn in_either(name: &[u8]) -> Role {
-    if same(name, b"ReadRequirement") {
-        Role::Level
-    } else if same(name, b"MinCount") {
-        Role::Count
-    } else if same(name, b"Comparison") {
-        Role::Comparison
-    } else if same(name, b"Values") {
-        Role::Values
-    } else {
-        Role::Other
+fn in_either(member: CommonMember) -> Role {
+    match member {
+        CommonMember::ReadRequirement => Role::Level,
+        CommonMember::MinCount => Role::Count,
+        CommonMember::Comparison => Role::Comparison,
+        CommonMember::Values => Role::Values,
+        CommonMember::Skipped => Role::Other,
     }
 }
 
 // What values a comparison takes.
-#[derive(Clone, Copy)]
+#[derive(Clone, Copy, Debug, PartialEq, Eq)]
 pub enum Takes {
     Several,
     One,
@@ -181,23 +182,20 @@ pub enum Takes {
 impl Takes {
     // What the comparison of that word takes, if it is one.
     pub fn of(word: &[u8]) -> Option<Takes> {
-        if same(word, b"AnyOf") || same(word, b"AllOf") {
-            Some(Takes::Several)
-        } else if same(word, b"Equal") || same(word, b"NotEqual") {
-            Some(Takes::One)
-        } else if is_order(word) {
-            Some(Takes::OneWhole)
-        } else if same(word, b"Present") || same(word, b"Absent") {
-            Some(Takes::Nothing)
-        } else {
-            None
+        Some(match TestWords::meaning(word)? {
+            TestWord::Present | TestWord::Absent => Takes::Nothing,
+            TestWord::By(operator) => Takes::by(operator),
+        })
+    }
+
+    fn by(operator: Operator) -> Takes {
+        match operator {
+            Operator::AnyOf | Operator::AllOf => Takes::Several,
+            Operator::Equal | Operator::NotEqual => Takes::One,
+            Operator::GreaterThan
+            | Operator::GreaterThanOrEqual
+            | Operator::LessThan
+            | Operator::LessThanOrEqual => Takes::OneWhole,
         }
     }
-}
-
-fn is_order(word: &[u8]) -> bool {
-    same(word, b"GreaterThan")
-        || same(word, b"GreaterThanOrEqual")
-        || same(word, b"LessThan")
-        || same(word, b"LessThanOrEqual")
 }

@@ -10,7 +10,8 @@ use Rattle.syntax.specs.Walking.{Member, find, listed, listed_items}
 use Rattle.grade.specs.Grades.{Level}
 use Rattle.requirement.specs.declared.words.TestWord.{TestWord}
 use Rattle.requirement.specs.declared.words.TestWord.TheVariants.{Present, Absent, By}
-use Rattle.requirement.specs.Words.{◌of◌, lookup, mandatory, not_asked, level_words, operator_words, test_words, text, count, scalar, version, items, members, Version}
+use Rattle.syntax.specs.Contents.{text, items, members}
+use Rattle.requirement.specs.Words.{◌of◌, lookup, mandatory, not_asked, level_words, operator_words, test_words, count, scalar, version, Version}
 use Rattle.requirement.specs.Clause.{get, quote_of, given, each_read, flat, members_in, items_in, scalars, names, level_of, compared, asked_of, test_word_of, test_values, tested, test_of, condition_of, condition_in, conditions_of, entry_of, properties, Parent, clause, Least, Presence, Property, Nested, nested_clause, nested_clauses, entry_clauses, property_clauses, version_clause, entries_clauses, schema_clauses, clauses}
 use Rattle.requirement.specs.More.{bare, bare_items, bare_members, unplaced}
 

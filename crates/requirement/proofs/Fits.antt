@@ -10,7 +10,7 @@ use Rattle.requirement.specs.declared.words.Operator.{Operator}
 use Rattle.requirement.specs.declared.words.Operator.TheVariants.{AnyOf, AllOf, Equal, NotEqual, GreaterThan, GreaterThanOrEqual, LessThan, LessThanOrEqual}
 use Rattle.requirement.specs.declared.words.TestWord.{TestWord}
 use Rattle.requirement.specs.declared.words.TestWord.TheVariants.{Present, Absent, By}
-use Rattle.requirement.specs.Words.{items, whole_number}
+use Rattle.syntax.specs.Contents.{items, whole_number}
 use Rattle.requirement.specs.Clause.{get, operator_of, test_word_of}
 use Rattle.requirement.specs.Check.{one_number, takes, fits, comparison_fits, comparing, test_fits, states, alike, condition_fits, presence}
 use Rattle.requirement.specs.Law.{States, OneNumber, Takes, Taken, Compares, Tests, Skipping}

@@ -10,7 +10,8 @@ use Rattle.requirement.specs.declared.fault.ProfileFault.TheVariants.{Unnamed}
 use Rattle.requirement.specs.declared.words.CommonMember.{CommonMember}
 use Rattle.requirement.specs.declared.words.ConditionMember.TheVariants as n
 use Rattle.requirement.specs.declared.words.EntryMember.TheVariants as e
-use Rattle.requirement.specs.Words.{Table, nothing, row, lookup, level_words, operator_words, test_words, text, count, scalar, version}
+use Rattle.syntax.specs.Contents.{text}
+use Rattle.requirement.specs.Words.{Table, nothing, row, lookup, level_words, operator_words, test_words, count, scalar, version}
 use Rattle.requirement.specs.Clause.{test_word_of}
 use Rattle.requirement.specs.Check as check
 use Rattle.requirement.specs.Check.{Check, want, starts_with_slash, property_name, presence}

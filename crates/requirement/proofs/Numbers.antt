@@ -9,7 +9,8 @@ use Rattle.syntax.specs.Bytes.{digit}
 use Rattle.syntax.specs.Value.{Value}
 use Rattle.syntax.specs.Value as v
 use Rattle.syntax.specs.Walking.{all_digits, decimal, natural, negative, whole}
-use Rattle.requirement.specs.Words.{◌of◌, whole_number, greatest, bounded, not_negative, count, scalar, Number}
+use Rattle.syntax.specs.Contents.{whole_number}
+use Rattle.requirement.specs.Words.{◌of◌, greatest, bounded, not_negative, count, scalar, Number}
 use Rattle.requirement.specs.Law.{Digits, Whole, plain, minus, ACount, counts, AScalar, ANumber, is_number}
 use Rattle.requirement.specs.Law as law
 

@@ -7,7 +7,8 @@ use Rattle.syntax.specs.Grammar as texts
 use Rattle.syntax.specs.Walking.{Member, listed}
 use Rattle.syntax.proofs.Stands as text_laws
 use Rattle.grade.specs.Grades.{Level}
-use Rattle.requirement.specs.Words.{◌of◌, lookup, mandatory, level_words, operator_words, text, count, version, items, members}
+use Rattle.syntax.specs.Contents.{text, items, members}
+use Rattle.requirement.specs.Words.{◌of◌, lookup, mandatory, level_words, operator_words, count, version}
 use Rattle.requirement.specs.Clause.{get, given, flat, members_in, items_in, scalars, level_of, compared, asked_of, condition_in, conditions_of, replaced_by_of, entry_of, properties, Parent, Clause, clause, Presence, Least, Property, nested_clause, nested_clauses, entry_clauses, property_clauses, version_clause, entries_clauses, schema_clauses, clauses}
 use Rattle.requirement.specs.Reading.{reading_profile}
 use Rattle.requirement.specs.More.{bare, unplaced, Inserted, Changed, Revalued, ChangedUnder, Arrays, arrays, Objects, objects, Single, single, MoreConditions, InProperties, MoreNested, MoreEntry, MoreSchema, MoreProfile, WiderEntry, property, nested, Wider, Widens}

@@ -19,7 +19,8 @@ use Rattle.requirement.specs.declared.words.EntryMember.{EntryMember}
 use Rattle.requirement.specs.declared.words.EntryMember.TheVariants as e
 use Rattle.requirement.specs.declared.words.SchemaMember.{SchemaMember}
 use Rattle.requirement.specs.declared.words.SchemaMember.TheVariants as s
-use Rattle.requirement.specs.Words.{Table, nothing, on, lookup, level_words, operator_words, test_words, text, elements, fields, items, whole_number, count, scalar, version}
+use Rattle.syntax.specs.Contents.{text, elements, fields, items, whole_number}
+use Rattle.requirement.specs.Words.{Table, nothing, on, lookup, level_words, operator_words, test_words, count, scalar, version}
 use Rattle.requirement.specs.Clause.{get, operator_of, test_word_of}
 
 abbrev pub Check : Type 0

@@ -11,7 +11,8 @@ use Rattle.requirement.specs.declared.words.Operator.{Operator}
 use Rattle.requirement.specs.declared.words.Operator.TheVariants.{AnyOf}
 use Rattle.requirement.specs.declared.words.TestWord.{TestWord}
 use Rattle.requirement.specs.declared.words.TestWord.TheVariants.{Present, Absent, By}
-use Rattle.requirement.specs.Words.{lookup, ◌of◌, mandatory, not_asked, level_words, operator_words, test_words, Scalar, scalar, text, count, items, members, Version, version}
+use Rattle.syntax.specs.Contents.{text, items, members}
+use Rattle.requirement.specs.Words.{lookup, ◌of◌, mandatory, not_asked, level_words, operator_words, test_words, Scalar, scalar, count, Version, version}
 
 -- an operator with the values that it takes
 pub record Comparison : Type 0 where

@@ -1,6 +1,7 @@
 -- The faults of a profile, by the numbers under which they are told.
 use Rattle.std.specs.Prelude.{ℕ}
 use Rattle.syntax.specs.Reading.{number as cause_number}
+use Rattle.refused.specs.declared.Refused.{Refused}
 use Rattle.requirement.specs.declared.fault.ProfileFault.{ProfileFault}
 use Rattle.requirement.specs.declared.fault.ProfileFault.TheVariants.{Text, Unlawful, Unnamed, TooMany}
 
@@ -23,3 +24,6 @@ place (Text f) = f.place
 place (Unlawful p) = p
 place (Unnamed p) = p
 place TooMany = 0
+
+abbrev pub told : ProfileFault → Refused
+told f = record { number = number f; cause = cause f; place = place f }

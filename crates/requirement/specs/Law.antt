@@ -14,7 +14,8 @@ use Rattle.requirement.specs.declared.fault.ProfileFault.TheVariants.{Text, TooM
 use Rattle.requirement.specs.declared.words.Operator.{Operator}
 use Rattle.requirement.specs.declared.words.Operator.TheVariants.{AnyOf, AllOf, Equal, NotEqual, GreaterThan, GreaterThanOrEqual, LessThan, LessThanOrEqual}
 use Rattle.requirement.specs.declared.words.TestWord.TheVariants.{Present, Absent, By}
-use Rattle.requirement.specs.Words.{Table, nothing, row, on, level_words, operator_words, test_words, items, greatest, Version}
+use Rattle.syntax.specs.Contents.{items}
+use Rattle.requirement.specs.Words.{Table, nothing, row, on, level_words, operator_words, test_words, greatest, Version}
 use Rattle.requirement.specs.Clause.{Clause, clauses, get, operator_of, test_word_of}
 use Rattle.requirement.specs.Rules.{Rule, anything, being, saying, AString, array_of, object_with, object_of, named_in, under, valued, property_valued, PropertyName, unless}
 use Rattle.requirement.specs.Reading.{reading_profile, most}

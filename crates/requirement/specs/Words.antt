@@ -1,11 +1,12 @@
--- The words of a profile, and what a value says taken by itself: each a partial reading, `None` where the value is of another kind or out of range.
+-- The words of a profile, and what a value of a profile says: each a partial reading, `None` where the value is of another kind or out of range.
 use Rattle.std.specs.Prelude.{ℕ, Bool, true, false, cond, List, [], ◌∷◌, length, ℤ, pos, negsuc, Some, None, codes, Option, ◌==◌, nat_le}
 use Prim.Native.String.{String}
-use Rattle.std.specs.Option.{option_map, unwrap_or}
+use Rattle.std.specs.Option.{option_map}
 use Rattle.syntax.specs.declared.kinds.Literal.{Literal}
 use Rattle.syntax.specs.Bytes.{contents, same}
 use Rattle.syntax.specs.Value.{Value, literal, number, string, array, object}
-use Rattle.syntax.specs.Walking.{Member, listed, listed_items, natural, whole}
+use Rattle.syntax.specs.Walking.{natural, whole}
+use Rattle.syntax.specs.Contents.{text, whole_number}
 use Rattle.grade.specs.declared.Grade.TheVariants.{Clear, Note, Hold}
 use Rattle.grade.specs.Grades.{Level, level}
 use Rattle.requirement.specs.declared.words.Operator.{Operator}
@@ -51,42 +52,6 @@ test_words =
     on "Present" Present (on "Absent" Absent
     (on "AnyOf" (By AnyOf) (on "AllOf" (By AllOf) (on "Equal" (By Equal) (on "NotEqual" (By NotEqual)
     (on "GreaterThan" (By GreaterThan) (on "GreaterThanOrEqual" (By GreaterThanOrEqual) (on "LessThan" (By LessThan) (on "LessThanOrEqual" (By LessThanOrEqual) nothing)))))))))
-
--- the letters of a string, the items of an array, the members of an object
-abbrev pub text : Value → Option (List ℕ)
-text (literal i j w) = None
-text (number i j n) = None
-text (string i j s) = Some s
-text (array i j vs) = None
-text (object i j ms) = None
-
-abbrev pub elements : Value → Option (List Value)
-elements (literal i j w) = None
-elements (number i j n) = None
-elements (string i j s) = None
-elements (array i j vs) = Some (listed_items vs)
-elements (object i j ms) = None
-
-abbrev pub fields : Value → Option (List Member)
-fields (literal i j w) = None
-fields (number i j n) = None
-fields (string i j s) = None
-fields (array i j vs) = None
-fields (object i j ms) = Some (listed ms)
-
-abbrev pub items : Value → List Value
-items v = unwrap_or (elements v) []
-
-abbrev pub members : Value → List Member
-members v = unwrap_or (fields v) []
-
--- a whole number
-abbrev pub whole_number : Value → Option ℤ
-whole_number (literal i j w) = None
-whole_number (number i j n) = whole n
-whole_number (string i j s) = None
-whole_number (array i j vs) = None
-whole_number (object i j ms) = None
 
 -- the most that a count, and a part of a version, may be
 abbrev pub greatest : ℕ

@@ -1,4 +1,6 @@
-// How what is found is compared with the values that stand in a profile.
+// The words of profiles, and the members of their objects.
+
+/// How what is found is compared with the values that stand in a profile.
 #[derive(Clone, Copy, Debug, PartialEq, Eq)]
 pub enum Operator {
     AnyOf,
@@ -11,7 +13,7 @@ pub enum Operator {
     LessThanOrEqual,
 }
 
-// What a condition tests of a property.
+/// What a condition tests of a property.
 #[derive(Clone, Copy, Debug, PartialEq, Eq)]
 pub enum TestWord {
     Present,
@@ -19,7 +21,7 @@ pub enum TestWord {
     By(Operator),
 }
 
-// The members that property entries and conditions have in common. Some are named and skipped.
+/// The members that property entries and conditions have in common. Some are named and skipped.
 #[derive(Clone, Copy, Debug, PartialEq, Eq)]
 pub enum CommonMember {
     ReadRequirement,
@@ -29,7 +31,7 @@ pub enum CommonMember {
     Skipped,
 }
 
-// The members of a condition.
+/// The members of a condition.
 #[derive(Clone, Copy, Debug, PartialEq, Eq)]
 pub enum ConditionMember {
     SubordinateToResource,
@@ -39,7 +41,7 @@ pub enum ConditionMember {
     Common(CommonMember),
 }
 
-// The members of a property entry; the last stands on the first level only.
+/// The members of a property entry; the last stands on the first level only.
 #[derive(Clone, Copy, Debug, PartialEq, Eq)]
 pub enum EntryMember {
     Common(CommonMember),
@@ -49,7 +51,7 @@ pub enum EntryMember {
     PropertyRequirements,
 }
 
-// The members of a schema entry.
+/// The members of a schema entry.
 #[derive(Clone, Copy, Debug, PartialEq, Eq)]
 pub enum SchemaMember {
     MinVersion,

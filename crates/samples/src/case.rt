@@ -1,27 +1,14 @@
 // One line of a table: three numbers and the bytes of a sample, single spaces between. In the bytes `%XX` is the byte of that hexadecimal number.
+ghost use Rattle.std.specs.Prelude.{◌<◌, length, IfSome};
+
 use crate::Verdict;
+use refused::Refused;
 use std::alloc::{AllocError, Global};
 
 #[derive(Drop)]
 pub struct Case {
     pub wanted: Verdict,
     pub bytes: Vec<u8>,
-}
-
-// The decimal number at `at` and the place past the space behind it.
-fn number(line: &[u8], at: usize) -> (usize, usize) {
-    let mut value = 0usize;
-    let mut next = at;
-    for b in line.iter().skip(at) {
-        next = next.saturating_add(1);
-        if *b < b'0' || *b > b'9' {
-            break;
-        }
-        value = value
-            .saturating_mul(10)
-            .saturating_add((*b - b'0') as usize);
-    }
-    (value, next)
 }
 
 fn digit(b: u8) -> Option<u8> {
@@ -32,44 +19,54 @@ fn digit(b: u8) -> Option<u8> {
     }
 }
 
-// The byte of two hexadecimal digits, if they stand at the front.
-fn escaped(rest: &[u8]) -> Option<u8> {
-    let [b'%', high, low, ..] = rest else {
+// The byte of two hexadecimal digits behind a percent sign, if these stand at the front, and the bytes behind them.
+fn escaped(written: &[u8]) -> Option<(u8, &[u8])>
+    ensures { IfSome result (λ parts. length parts.1.now < length written.now) }
+{
+    let [b'%', high, low, behind @ ..] = written else {
         return None;
     };
-    digit(*high)?.checked_mul(16)?.checked_add(digit(*low)?)
+    let byte = digit(*high)?.checked_mul(16)?.checked_add(digit(*low)?)?;
+    Some((byte, behind))
 }
 
 fn bytes_of(heap: Global, written: &[u8]) -> Result<Vec<u8>, AllocError> {
     let mut bytes = Vec::new(heap);
-    let mut skip = 0usize;
-    for i in 0..written.len() {
-        if skip > 0 {
-            skip -= 1;
-        } else if let Some(b) = escaped(&written[i..]) {
-            bytes.push(b)?;
-            skip = 2;
-        } else {
-            bytes.push(written[i])?;
-        }
+    let mut rest = written;
+    while let Some((first, others)) = rest.split_first() {
+        let (byte, behind) = escaped(rest).unwrap_or((*first, others));
+        bytes.push(byte)?;
+        rest = behind;
     }
     Ok(bytes)
 }
 
-// The sample of a line, if it has three numbers.
-pub fn parse(heap: Global, line: &[u8]) -> Result<Option<Case>, AllocError> {
-    let (first, second) = number(line, 0);
-    let (cause, third) = number(line, second);
-    let (place, rest) = number(line, third);
-    if rest > line.len() {
-        return Ok(None);
-    }
-    Ok(Some(Case {
-        wanted: Verdict {
-            number: first,
-            cause,
+// The verdict that a line begins with, 0, a count and 0 of what is accepted; and what stands behind it.
+fn wanted(line: &str) -> Option<(Verdict, &str)> {
+    let (number, behind) = line.split_once(' ')?;
+    let (cause, behind) = behind.split_once(' ')?;
+    let (place, written) = behind.split_once(' ')?;
+    let number = number.parse().ok()?;
+    let place = place.parse().ok()?;
+    let verdict = match (number, place) {
+        (0, 0) => Ok(cause.parse().ok()?),
+        (0, _) => return None,
+        _ => Err(Refused {
+            number,
+            cause: cause.parse().ok()?,
             place,
-        },
-        bytes: bytes_of(heap, &line[rest..])?,
-    }))
+        }),
+    };
+    Some((verdict, written))
+}
+
+/// The sample of a line, if the line begins with a verdict.
+pub fn parse(heap: Global, line: &str) -> Result<Option<Case>, AllocError> {
+    match wanted(line) {
+        Some((wanted, written)) => Ok(Some(Case {
+            wanted,
+            bytes: bytes_of(heap, written.as_bytes())?,
+        })),
+        None => Ok(None),
+    }
 }

@@ -1,31 +1,35 @@
 // Bundles and books, and both at their limits.
 use crate::Verdict;
+use crate::large::filled;
 use bundle::Bundle;
+use refused::Refused;
 use std::alloc::{AllocError, Global};
 use std::io;
 use store::Store;
 
+// Apart from `of_book`: two libraries' functions of two types, in two lines.
 pub fn of_bundle(bytes: &[u8]) -> Verdict {
-    match bundle::check(bytes) {
-        Ok(()) => Verdict::accepted(Bundle::open(bytes).count()),
-        Err(refusal) => Verdict::refused(refusal.rule.number(), 0, refusal.place),
-    }
+    bundle::check(bytes)?;
+    Ok(Bundle::open(bytes).count())
 }
 
 pub fn of_book(bytes: &[u8]) -> Verdict {
-    match book::check(bytes) {
-        Ok(()) => Verdict::accepted(book::open(bytes).count()),
-        Err(refusal) => Verdict::refused(refusal.number(), refusal.cause(), refusal.place()),
-    }
+    book::check(bytes)?;
+    Ok(book::open(bytes).count())
 }
 
 fn show(rt: &HostRuntime, name: &str, verdict: Verdict) -> io::Result<()> {
-    let Verdict {
-        number,
-        cause,
-        place,
-    } = verdict;
-    println!(rt; "{name}: {number} {cause} {place}")
+    match verdict {
+        Ok(count) => println!(rt; "{name}: 0 {count} 0"),
+        // without the `R` of a line by itself
+        Err(
+            Refused {
+                number,
+                cause,
+                place,
+            },
+        ) => println!(rt; "{name}: {number} {cause} {place}"),
+    }
 }
 
 // A path of its own for each number below 17,576.
@@ -46,9 +50,7 @@ fn bundle_of(heap: Global, records: usize, body: usize) -> Result<Vec<u8>, Alloc
         bytes.push(5)?;
         bytes.extend_from_slice(&path(n))?;
         bytes.extend_from_slice(&((body & 0xffff_ffff) as u32).to_be_bytes())?;
-        for _ in 0..body {
-            bytes.push(b'x')?;
-        }
+        bytes.extend_from_slice(&filled(heap, b"", b"x", body, b"")?)?;
     }
     Ok(bytes)
 }
@@ -95,7 +97,7 @@ fn bundle_limits(rt: &HostRuntime) -> io::Result<()> {
     show(
         rt,
         "16,777,217 bytes",
-        of_bundle(&filled(heap, 16_777_217)?),
+        of_bundle(&filled(heap, b"", b"\x00", 16_777_217, b"")?),
     )
 }
 
@@ -126,12 +128,4 @@ fn book_limits(rt: &HostRuntime) -> io::Result<()> {
         "1,024 members, the last again",
         of_book(&book_of(heap, 1_024, b"/pbaa")?),
     )
-}
-
-fn filled(heap: Global, length: usize) -> Result<Vec<u8>, AllocError> {
-    let mut bytes = Vec::new(heap);
-    for _ in 0..length {
-        bytes.push(0)?;
-    }
-    Ok(bytes)
 }

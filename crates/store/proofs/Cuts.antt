@@ -1,9 +1,9 @@
 -- The paths above a path.
-use Rattle.std.proofs.Common.{◌≡◌, ℕ, zero, suc, ◌<◌, ◌≤◌, ◌&&◌, eqb, ltb, List, [], ◌∷◌, length, get_or, take, refl, ◌∙◌, subst, ⊎_elim, arith, length-take-le, get_or-take, take-take}
+use Rattle.std.proofs.Common.{◌≡◌, ◌≢◌, ℕ, zero, suc, ◌+◌, ◌-◌, ◌<◌, ◌≤◌, Some, None, sym, ap, add-zero, zero-le, ◌&&◌, eqb, ltb, List, [], ◌∷◌, length, get_or, take, refl, ◌∙◌, subst, ⊎_elim, arith, length-take-le, get_or-take, take-take}
 use Rattle.std.specs.List.{ContainsAt, AllByRecursion}
 use Rattle.std.proofs.ByRecursion.{all-has, has_append_right, All-get_or, All-weaker}
 use Rattle.std.proofs.lemmas.Bool.{ltb-true, eqb-true, lt-ltb, eq-eqb, ne_eqb, and_parts, and_from, and_right, cond_both, cond-true, cond-false, cases_eq}
-use Rattle.store.specs.Paths.{cuts_below, cuts, Above, Falling, CutsLaw}
+use Rattle.store.specs.Paths.{cuts_below, cuts, Above, Falling, CutsLaw, LastSlash}
 
 -- where the byte is a slash past the first byte, there is a cut
 pub cut_at : (p : List ℕ) (i : ℕ) → 0 < i → get_or p i 0 ≡ 47 → cuts_below p (suc i) ≡ take i p ∷ cuts_below p i
@@ -91,19 +91,27 @@ cuts_law p = (
   cuts_falling p (length p) (omega arith),
 )
 
--- one place lower, where no slash stands there
-pub cuts_lower : (p : List ℕ) (n i : ℕ) → suc i ≡ n → (get_or p i 0 ≡ 47 → ⊥) → cuts p ≡ cuts_below p n → cuts p ≡ cuts_below p i
-cuts_lower p n i e other h = h ∙ rw (← e) (no_cut_at p i other)
+-- where no slash stands from the place i on, the cuts are those below i
+cuts_lower : (p : List ℕ) (i k : ℕ) → ((j : ℕ) → i ≤ j → j < i + k → get_or p j 0 ≢ 47) → cuts_below p (i + k) ≡ cuts_below p i
+cuts_lower p i zero none = ap (cuts_below p) (add-zero i)
+cuts_lower p i (suc k) none =
+    let sum : i + suc k ≡ suc (i + k) = omega arith in
+    ap (cuts_below p) sum ∙ no_cut_at p (i + k) (none (i + k) (omega arith) (omega arith)) ∙ cuts_lower p i k (λ j l m. none j l (omega arith))
 
--- the nearest path above p, where no slash that counts stands past the one at i
-pub cuts_nearest : (p : List ℕ) (n i : ℕ) → suc i ≡ n → n ≤ length p → 0 < i → get_or p i 0 ≡ 47 → cuts p ≡ cuts_below p n
-    → cuts p ≡ take i p ∷ cuts (take i p)
-cuts_nearest p n i e le past slash h =
-    let in' : i ≤ length p = omega arith in
-    h ∙ rw (← e, cut_at p i past slash, cuts_of_take p i in')
+cuts_from : (p : List ℕ) (i : ℕ) → i ≤ length p → ((j : ℕ) → i ≤ j → j < length p → get_or p j 0 ≢ 47) → cuts p ≡ cuts_below p i
+unfolding cuts
+cuts_from p i h none =
+    let sum : length p ≡ i + (length p - i) = omega arith in
+    ap (cuts_below p) sum ∙ cuts_lower p i (length p - i) (λ j l m. none j l (omega arith))
 
--- no path stands above p, where no slash that counts stands past the first byte
-pub cuts_none : (p : List ℕ) (n : ℕ) → n ≤ 1 → cuts p ≡ cuts_below p n → cuts p ≡ []
-cuts_none p zero l h = h
-cuts_none p (suc zero) l h = h
-cuts_none p (suc (suc n)) l h = absurd (omega arith)
+-- the front before the last slash is the nearest path above p
+pub cuts_nearest : (p : List ℕ) (i : ℕ) → LastSlash p (Some i) → 0 < i → cuts p ≡ take i p ∷ cuts (take i p)
+cuts_nearest p i h past =
+    cuts_from p (suc i) h.0 (λ j l. h.2 j l) ∙ cut_at p i past h.1 ∙ ap (λ cs. take i p ∷ cs) (sym (cuts_of_take p i (omega (arith, h.0))))
+
+-- no path stands above p, where no slash stands past the first byte
+pub cuts_none : (p : List ℕ) → LastSlash p None → cuts p ≡ []
+cuts_none p h = cuts_from p 0 zero-le (λ j l. h j)
+
+pub cuts_first : (p : List ℕ) → LastSlash p (Some 0) → cuts p ≡ []
+cuts_first p h = cuts_from p 1 (omega (arith, h.0)) (λ j l. h.2 j (omega arith))

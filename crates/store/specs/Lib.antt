@@ -1,2 +1,3 @@
 pub mod Paths
 pub mod Pairs
+pub mod Lent

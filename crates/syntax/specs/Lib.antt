@@ -8,3 +8,4 @@ pub mod Limits
 pub mod Laws
 pub mod Rows
 pub mod Walking
+pub mod Contents

@@ -1,7 +1,7 @@
 ghost use Rattle.std.specs.Prelude.{◌≡◌};
 ghost use Rattle.syntax.specs.Reading.{number};
 
-// Why bytes are no text.
+/// Why bytes are no text.
 #[derive(Clone, Copy, Debug, PartialEq, Eq)]
 pub enum Cause {
     TooLong = 1,
@@ -11,7 +11,8 @@ pub enum Cause {
 }
 
 impl Cause {
-    // The number by which a cause is told.
+    /// The number by which a cause is told.
+    // a method of the rules' word: what is told is a number, and the clauses name it
     pub fn number(self) -> u8
         ensures { result ≡ number self }
     {
@@ -19,13 +20,14 @@ impl Cause {
     }
 }
 
-// A cause, and the byte place at which it stands.
+/// A cause, and the byte place at which it stands.
 #[derive(Clone, Copy, Debug, PartialEq, Eq)]
 pub struct Fault {
     pub cause: Cause,
     pub place: usize,
 }
 
+/// What stands for itself.
 #[derive(Clone, Copy, Debug, PartialEq, Eq)]
 pub enum Literal {
     Null,
@@ -33,6 +35,7 @@ pub enum Literal {
     True,
 }
 
+/// The kinds of values.
 #[derive(Clone, Copy, Debug, PartialEq, Eq)]
 pub enum Kind {
     Null,
@@ -44,9 +47,9 @@ pub enum Kind {
     Object,
 }
 
-// How far a number has come: past its minus, its leading zero, the digits before the point, the point, the digits behind
-// it, the e, the e's sign, the digits behind that.
-#[derive(Clone, Copy)]
+/// How far a number has come: past its minus, its leading zero, the digits before the point, the point, the digits behind
+/// it, the e, the e's sign, the digits behind that.
+#[derive(Clone, Copy, Debug, PartialEq, Eq)]
 pub enum Digits {
     Minus,
     Zero,
@@ -58,8 +61,8 @@ pub enum Digits {
     Power,
 }
 
-// Where a string stands: between two characters, past a backslash, or with so many hexadecimal digits to come.
-#[derive(Clone, Copy)]
+/// Where a string stands: between two characters, past a backslash, or with so many hexadecimal digits to come.
+#[derive(Clone, Copy, Debug, PartialEq, Eq)]
 pub enum Letters {
     Plain,
     Escape,

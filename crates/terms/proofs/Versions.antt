@@ -1,63 +1,54 @@
--- The parts of a version, by the place of the first dot.
-use Rattle.std.proofs.Common.{◌≡◌, ℕ, zero, suc, ◌+◌, ◌-◌, ◌<◌, Bool, true, false, cond, eqb, leb, List, [], ◌∷◌, length, get_or, take, drop, Some, None, Option, sym, refl, ap, ◌∙◌, arith}
-use Rattle.std.specs.List.{between}
-use Rattle.std.proofs.lemmas.Slice.{between_to_end}
-use Rattle.std.proofs.lemmas.Bool.{cond-false, eq-eqb, ne_eqb, lt-leb}
+-- The parts of a version are the pieces that splitting at dots gives.
+use Rattle.std.proofs.Common.{◌≡◌, ℕ, suc, ◌<◌, Bool, true, false, cond, eqb, leb, List, [], ◌∷◌, ◌++◌, length, get_or, MatchOption, Some, None, Option, Bor, sym, refl, ap, ◌∙◌, subst, arith}
+use Rattle.std.specs.Bool.{MatchBool}
+use Rattle.std.specs.Fn.{CalledAt}
+use Rattle.std.specs.List.{slice_split, onto_first, All, IsFirstMatchOrLen}
+use Rattle.std.specs.Slice.Iter.{split_steps, split_rest, split_done, split_callee}
+use Rattle.std.specs.declared.slice.Split.{Split}
+use denote.Param.Members.{Mut}
+use Rattle.std.proofs.lemmas.Bool.{cond-false, lt-leb}
+use Rattle.std.proofs.lemmas.Fn.{always_returns_same}
+use Rattle.std.proofs.lemmas.Grind.{common_steps}
+use Rattle.std.proofs.lemmas.List.Splits.{slice_split_none, slice_split_at}
 use Rattle.syntax.specs.Walking.{natural}
-use Rattle.requirement.specs.Words.{◌of◌, bounded, in_front, part, parts, triple, joined, version_said}
+use Rattle.requirement.specs.Words.{◌of◌, bounded, in_front, part, parts}
 
--- no dot stands before the place n
-abbrev pub Dotless : List ℕ → ℕ → Type 0
-Dotless bs n = (k : ℕ) → k < n → get_or bs k 0 ≡ 46 → ⊥
+abbrev is_dot : ℕ → Bool
+is_dot b = eqb b 46
 
-below : (b : ℕ) (bs : List ℕ) (n : ℕ) → Dotless (b ∷ bs) (suc n) → Dotless bs n
-below b bs n h k l e = h (suc k) (omega arith) e
-
-plain : (b : ℕ) (p : List ℕ) (ps qs : List (List ℕ)) → (b ≡ 46 → ⊥) → qs ≡ p ∷ ps → in_front (eqb b 46) b qs ≡ (b ∷ p) ∷ ps
-plain b p ps qs h e = ap (λ t. in_front t b qs) (ne_eqb b 46 h) ∙ ap (in_front false b) e
-
--- where there is no dot, there is one part
-pub one_part : (bs : List ℕ) → Dotless bs (length bs) → parts bs ≡ bs ∷ []
-one_part [] h = refl
-one_part (b ∷ bs) h = plain b bs [] (parts bs) (h 0 (omega arith)) (one_part bs (below b bs (length bs) h))
-
--- the first part ends at the first dot
-cut : (bs : List ℕ) (n : ℕ) → n < length bs → Dotless bs n → get_or bs n 0 ≡ 46 → parts bs ≡ take n bs ∷ parts (drop (n + 1) bs)
-cut [] n l h e = absurd (omega arith)
-cut (b ∷ bs) zero l h e = ap (λ t. in_front t b (parts bs)) (eq-eqb b 46 e)
-cut (b ∷ bs) (suc n) l h e =
-    let d : suc n + 1 ≡ suc (n + 1) = omega arith in
-    plain b (take n bs) (parts (drop (n + 1) bs)) (parts bs) (h 0 (omega arith)) (cut bs n (omega arith) (below b bs n h) e)
-    ∙ ap (λ k. (b ∷ take n bs) ∷ parts (drop k (b ∷ bs))) (sym d)
-
-pub first_part : (bs : List ℕ) (n : ℕ) → n < length bs → Dotless bs n → get_or bs n 0 ≡ 46 → parts bs ≡ between 0 n bs ∷ parts (between (n + 1) (length bs) bs)
-first_part bs n l h e =
-    let d : n ≡ n - 0 = omega arith in
-    cut bs n l h e ∙ ap (λ k. take k bs ∷ parts (drop (n + 1) bs)) d ∙ ap (λ r. take (n - 0) bs ∷ parts r) (sym (between_to_end bs (n + 1) (length bs) (omega arith)))
-
--- there is always a part
-a_part : (bs : List ℕ) → (p : List ℕ) × ((ps : List (List ℕ)) × (parts bs ≡ p ∷ ps))
-a_part [] = ([], ([], refl))
-a_part (b ∷ bs) = by (eqb b 46) (a_part bs)
+are_pieces : (bs : List ℕ) → parts bs ≡ slice_split is_dot bs
+are_pieces [] = refl
+are_pieces (b ∷ bs) = ap (in_front (is_dot b) b) (are_pieces bs) ∙ alike (is_dot b) (slice_split is_dot bs)
   where
-    by : (t : Bool) → (p : List ℕ) × ((ps : List (List ℕ)) × (parts bs ≡ p ∷ ps)) → (p : List ℕ) × ((ps : List (List ℕ)) × (in_front t b (parts bs) ≡ p ∷ ps))
-    by true q = ([], (parts bs, refl))
-    by false q = (b ∷ q.0, (q.1.0, ap (in_front false b) q.1.1))
+    alike : (t : Bool) (ps : List (List ℕ)) → in_front t b ps ≡ cond t ([] ∷ ps) (onto_first b ps)
+    alike true ps = refl
+    alike false [] = refl
+    alike false (p ∷ ps) = refl
 
--- four parts are too many
-four : (a b c bs : List ℕ) → joined (a ∷ (b ∷ (c ∷ parts bs))) ≡ None
-four a b c bs = let q = a_part bs in ap (λ ps. joined (a ∷ (b ∷ (c ∷ ps)))) q.1.1
+-- the first piece, and the others
+piece : (xs x rest : List ℕ) (done : Bool) → MatchBool done (xs ≡ x) ((y : ℕ) × (xs ≡ x ++ (y ∷ rest))) → IsFirstMatchOrLen is_dot xs (length x) → slice_split is_dot xs ≡ x ∷ cond done [] (slice_split is_dot rest)
+piece xs x rest true e h = ap (slice_split is_dot) e ∙ slice_split_none is_dot x (λ k d l. subst (λ ys. is_dot (get_or ys k d) ≡ false) e (h.0 k d (omega arith) l))
+piece xs x rest false e h =
+    let front : All (λ z. is_dot z ≡ false) x = λ k d l. let a = h.0 k d (omega arith) l in let b = e.1 in grind (arith, common_steps) in
+    let hit : is_dot e.0 ≡ true = let b = e.1 in let a = h.1 (grind (arith, common_steps)) e.0 in grind (arith, common_steps) in
+    ap (slice_split is_dot) e.1 ∙ slice_split_at is_dot x e.0 rest front hit
 
--- two parts, and three
-pub two_parts : (s a r : List ℕ) → parts s ≡ a ∷ parts r → parts r ≡ r ∷ [] → (x y : Option ℕ) → x ≡ part a → y ≡ part r → triple x y (Some 0) ≡ version_said s
-two_parts s a r e d x y p q = ap (λ o. triple o y (Some 0)) p ∙ ap (λ o. triple (part a) o (Some 0)) q ∙ sym (ap joined (e ∙ ap (λ ps. a ∷ ps) d))
+module _ {F : Type 0} where
+  -- the pieces that are still to come
+  abbrev pub left : Split ℕ F → List (List ℕ)
+  left s = cond (split_done s) [] (slice_split is_dot (split_rest s))
 
-pub three_parts : (s a b r l : List ℕ) → parts s ≡ a ∷ parts r → parts r ≡ b ∷ parts l → parts l ≡ l ∷ [] → (x y z : Option ℕ) → x ≡ part a → y ≡ part b → z ≡ part l → triple x y z ≡ version_said s
-three_parts s a b r l e d f x y z p q h =
-    ap (λ o. triple o y z) p ∙ ap (λ o. triple (part a) o z) q ∙ ap (triple (part a) (part b)) h ∙ sym (ap joined (e ∙ ap (λ ps. a ∷ ps) d ∙ ap (λ ps. a ∷ (b ∷ ps)) f))
+  pub all_left : (s : Split ℕ F) (bs : List ℕ) → split_rest s ≡ bs → split_done s ≡ false → parts bs ≡ left s
+  all_left s bs e d = are_pieces bs ∙ ap (slice_split is_dot) (sym e) ∙ sym (ap (λ b. cond b [] (slice_split is_dot (split_rest s))) d)
 
-pub more_parts : (s a b c r l m : List ℕ) → parts s ≡ a ∷ parts r → parts r ≡ b ∷ parts l → parts l ≡ c ∷ parts m → None ≡ version_said s
-more_parts s a b c r l m e d f = sym (ap joined (e ∙ ap (λ ps. a ∷ ps) d ∙ ap (λ ps. a ∷ (b ∷ ps)) f) ∙ four a b c m)
+  -- one call of `next`
+  pub next_piece : (g : Mut F (Bor ℕ × Unit {0}) Bool) (s t : Split ℕ F) (r : Option (Bor (List ℕ))) → split_steps g s r t
+      → ((x : ℕ) (b : Bool) (q : F) → CalledAt g (split_callee s) x b q → (q ≡ split_callee s) × (b ≡ is_dot x))
+      → MatchOption r (left s ≡ []) (λ x. left s ≡ x.now ∷ left t)
+  next_piece g s t None k tests = ap (λ b. cond b [] (slice_split is_dot (split_rest s))) k.0
+  next_piece g s t (Some x) k tests =
+      let same = always_returns_same g (λ a r. r ≡ is_dot a.0.now) (split_callee s) (λ a r q c. let m = tests a.0.now r q (record { shown = a.0; shows = refl; called = c }) in (m.1, m.0)) in
+      ap (λ b. cond b [] (slice_split is_dot (split_rest s))) k.0 ∙ piece (split_rest s) x.now (split_rest t) (split_done t) k.1 (k.2 is_dot same).1
 
 -- a part that is too long, or begins with a minus
 pub too_long : (bs : List ℕ) → 5 < length bs → None ≡ part bs

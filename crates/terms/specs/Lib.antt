@@ -1,1 +1,2 @@
-pub mod Places
+pub mod Stated
+pub mod Rows

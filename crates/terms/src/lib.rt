@@ -1,18 +1,16 @@
-// Single words, names and values of a profile, by their bytes or by the place of a value in any text.
+// Single words, names and values of a profile, by their bytes or by the value.
 #![tactic(auto)]
 
 mod member_names;
-mod places;
 mod stated;
+mod values;
 mod version;
 mod words;
 
 pub use member_names::{
-    common_name, condition_name, entry_name, nested_name, property_name, schema_name,
-};
-pub use places::{
-    begins, count, get, is_scalar, item, items, member, members, string, version_at, whole_number,
+    CommonNames, ConditionNames, EntryNames, NestedNames, SchemaNames, property_name,
 };
 pub use stated::{properties, schemas, stated_operator, stated_test, stated_version};
+pub use values::{count, is_scalar, version_at};
 pub use version::{Version, version_said};
-pub use words::{level_word, operator_word, test_word};
+pub use words::{LevelWords, OperatorWords, TestWords, Words};

@@ -1,13 +1,13 @@
 // Versions: two or three parts joined by dots.
-ghost use Rattle.std.specs.Prelude.{◌≡◌, ◌+◌, ◌<◌, [], ◌∷◌, length, MatchOption};
-ghost use Rattle.std.specs.List.{between};
+ghost use Rattle.std.specs.Prelude.{◌≡◌};
 ghost use Rattle.std.specs.Option.{option_map};
-ghost use Rattle.requirement.specs.Words.{part as part_of, parts, triple, version_said as said};
-ghost use Rattle.terms.specs.Places.{bounded_number, version_told};
+ghost use Rattle.requirement.specs.Words.{part as part_of, triple, version_said as said};
+ghost use Rattle.terms.specs.Stated.{bounded_number, version_told};
 
 use walk::whole;
 
-#[derive(Clone, Copy, Debug, PartialEq, Eq)]
+/// A version, in which a later part counts only where the earlier ones are equal.
+#[derive(Clone, Copy, Debug, PartialEq, Eq, PartialOrd, Ord)]
 pub struct Version {
     pub major: u16,
     pub minor: u16,
@@ -18,14 +18,11 @@ pub struct Version {
 pub(crate) fn bounded(n: i64) -> Option<u16>
     ensures { result ≡ bounded_number n }
 {
-    if 0 <= n && n <= 65_535 {
-        Some(n as u16)
-    } else {
-        None
-    }
+    u16::try_from(n).ok()
 }
 
 // A part of a version: one to five digits.
+#[tactic(auto, using(crate::proofs::Versions::too_long, crate::proofs::Versions::no_part))]
 fn part(digits: &[u8]) -> Option<u16>
     ensures { result ≡ part_of digits.now }
 {
@@ -36,18 +33,6 @@ fn part(digits: &[u8]) -> Option<u16>
         [b'-', ..] => None,
         _ => bounded(whole(digits)?),
     }
-}
-
-// The place of the first dot: there the first part ends.
-fn dot(bytes: &[u8]) -> Option<usize>
-    ensures { MatchOption result (parts bytes.now ≡ bytes.now ∷ []) (λ i. (i < length bytes.now) × (parts bytes.now ≡ between 0 i bytes.now ∷ parts (between (i + 1) (length bytes.now) bytes.now))) }
-{
-    for (i, b) in bytes.iter().enumerate() {
-        if *b == b'.' {
-            return Some(i);
-        }
-    }
-    None
 }
 
 // A version, where all of its parts are there.
@@ -61,20 +46,16 @@ fn joined(major: Option<u16>, minor: Option<u16>, patch: Option<u16>) -> Option<
     })
 }
 
-// The version that a string says; a missing third part is 0.
+/// The version that a string says; a missing third part is 0.
 pub fn version_said(bytes: &[u8]) -> Option<Version>
     ensures { result ≡ option_map version_told (said bytes.now) }
 {
-    let first = dot(bytes)?;
-    let major = part(&bytes[0..first]);
-    let rest = &bytes[first + 1..];
-    let Some(second) = dot(rest) else {
-        return joined(major, part(rest), Some(0));
-    };
-    let minor = part(&rest[0..second]);
-    let last = &rest[second + 1..];
-    match dot(last) {
-        None => joined(major, minor, part(last)),
-        Some(_) => None,
+    let mut parts = bytes.split(|b| *b == b'.');
+    match (parts.next(), parts.next(), parts.next(), parts.next()) {
+        (Some(major), Some(minor), None, _) => joined(part(major), part(minor), Some(0)),
+        (Some(major), Some(minor), Some(patch), None) => {
+            joined(part(major), part(minor), part(patch))
+        }
+        _ => None,
     }
 }

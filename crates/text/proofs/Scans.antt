@@ -1,18 +1,24 @@
 -- One byte of a string, a number or a literal.
-use Rattle.std.proofs.Common.{◌≡◌, ℕ, ◌+◌, ◌<◌, ◌≤◌, true, false, ◌&&◌, eqb, List, [], ◌∷◌, length, get_or, drop, Some, None, sym, refl, ap, ◌∙◌, ⊎_elim}
-use Rattle.std.proofs.lemmas.List.Edits.{between_more}
+use Rattle.std.proofs.Common.{◌≡◌, ℕ, zero, suc, ◌+◌, ◌<◌, ◌≤◌, true, false, ◌&&◌, eqb, List, [], ◌∷◌, length, get_or, drop, Some, None, sym, refl, ap, ◌∙◌, ⊎_elim, cond, add-zero, subst, length-drop, arith}
+use Rattle.std.proofs.lemmas.List.Edits.{between_more, between_none}
 use Rattle.std.proofs.lemmas.Bool.{cond-true, cond-false, eq-eqb, ne_eqb, cases_lt}
-use Rattle.std.proofs.lemmas.List.{drop_more}
-use Rattle.std.specs.List.{between}
+use Rattle.std.proofs.lemmas.List.{drop_more, get_or-drop}
+use Rattle.std.proofs.lemmas.List.Sums.{prefix_len-le-length, prefix_len_passes, prefix_len_stops}
+use Rattle.std.proofs.lemmas.Bool.Decides.{nat_tests}
+use Rattle.std.specs.List.{between, prefix_len}
 use Rattle.syntax.specs.declared.kinds.Letters.{Letters}
+use Rattle.syntax.specs.declared.kinds.Letters.TheVariants.{Plain}
 use Rattle.syntax.specs.declared.kinds.Digits.{Digits}
 use Rattle.syntax.specs.declared.kinds.Literal.{Literal}
-use Rattle.syntax.specs.Bytes.{gap}
+use Rattle.syntax.specs.Bytes.{white, whites, unescaped, gap}
 use Rattle.syntax.specs.Value.{Value, number}
 use Rattle.syntax.specs.Machine.{Rules, run, State, Frame, Role, live, chars, digits, deliver, step, finish, step_after, ends, step_chars, next_letters, plain, next_digits, step_digits, ended, spelled, word, malformed, over, fault}
 use Rattle.syntax.specs.Steps.{Leads, Fails, Loose}
 use Rattle.syntax.proofs.Runs.{steps, fails, fails_end, alike, loose_gap}
 use Rattle.syntax.specs.declared.kinds.Fault.{Fault}
+
+unescaped_plain : (b : ℕ) → unescaped b ≡ true → (eqb b 34 ≡ false) × (next_letters Plain b ≡ Some Plain)
+unescaped_plain b h = (grind (arith, nat_tests), grind (arith, nat_tests))
 
 module _ (r : Rules) (s : List ℕ) where
   -- a fault at i, be it at a byte or where the bytes end
@@ -30,6 +36,18 @@ module _ (r : Rules) (s : List ℕ) where
 
     pub chars_out : (i < length s → ((plain o && eqb (get_or s i 0) 34) ≡ false) × (next_letters o (get_or s i 0) ≡ None)) → Fails r s i (live (chars o e q (between at i s)) k) (malformed i)
     chars_out h = stuck i _ _ (λ l. cond-false _ _ _ (h l).0 ∙ ap (λ t. step_chars t e q (between at i s) k (get_or s i 0) i) (h l).1) (λ l. refl)
+
+  -- over bytes that stand for themselves
+  pub chars_plain : (at : ℕ) (e : Role) (q : ℕ) (k : List Frame) (n : ℕ) → n ≤ prefix_len unescaped (drop at s) → at ≤ length s → Leads r s at (live (chars Plain e q []) k) (at + n) (live (chars Plain e q (between at (at + n) s)) k)
+  chars_plain at e q k zero l w =
+      subst (λ j. Leads r s at (live (chars Plain e q []) k) j (live (chars Plain e q (between at j s)) k)) (sym (add-zero at))
+      (ap (λ t. run r (drop at s) at (live (chars Plain e q t) k)) (sym (between_none s at)))
+  chars_plain at e q k (suc n) l w =
+      let inside : at + n < length s = omega (arith, prefix_len-le-length unescaped (drop at s), length-drop at s) in
+      let own = unescaped_plain (get_or s (at + n) 0) (ap unescaped (sym (get_or-drop at s n 0)) ∙ prefix_len_passes unescaped (drop at s) n 0 l) in
+      let next : (at + n) + 1 ≡ at + suc n = omega arith in
+      subst (λ j. Leads r s at (live (chars Plain e q []) k) j (live (chars Plain e q (between at j s)) k)) next
+      (chars_plain at e q k n (omega arith) w ∙ chars_on (at + n) at Plain e q k Plain (omega arith) inside own.0 own.1)
 
   -- a value that was read goes on as what stands around it does
   delivered : (v : Value) (k : List Frame) (b i : ℕ) → step_after v k b i ≡ step r (deliver v k) b i
@@ -63,3 +81,22 @@ module _ (r : Rules) (s : List ℕ) where
 
     pub word_out : (i < length s → get_or s i 0 ≡ get_or rest j 0 → ⊥) → Fails r s i (spelled (drop j rest) w p k i) (malformed i)
     word_out e = ap (run r (drop i s) i) spells ∙ stuck i _ _ (λ h. cond-false _ _ _ (ne_eqb _ _ (e h))) (λ h. refl)
+
+-- white space as `take_while` counts it
+pub whites_prefix : (l : List ℕ) → whites l ≡ prefix_len white l
+whites_prefix [] = refl
+whites_prefix (b ∷ l) = ap (λ n. cond (white b) n 0) (ap suc (whites_prefix l) ∙ (let n = prefix_len white l in let e : suc n ≡ 1 + n = omega arith in e))
+
+-- the place past the white space that `take_while` counts
+pub record Skipped (s : List ℕ) (at i : ℕ) : Type 0 where
+  pub is : i ≡ gap s at
+  pub within : at ≤ length s → i ≤ length s
+  pub stops : i < length s → white (get_or s i 0) ≡ false
+
+pub skipped : (s : List ℕ) (at n : ℕ) → n ≡ prefix_len white (drop at s) → n ≤ length (drop at s) → Skipped s at (at + n)
+unfolding gap
+skipped s at n e l = record {
+  is = ap (λ m. at + m) (e ∙ sym (whites_prefix (drop at s)));
+  within = λ h. omega (arith, l, length-drop at s);
+  stops = λ h. ap white (sym (get_or-drop at s n 0) ∙ ap (λ m. get_or (drop at s) m 0) e) ∙ prefix_len_stops white (drop at s) 0 (omega (arith, e, length-drop at s));
+}

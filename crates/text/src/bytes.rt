@@ -1,6 +1,6 @@
 // What a byte is, and how a number or a string goes on with it.
 ghost use Rattle.std.specs.Prelude.{◌≡◌, ◌&&◌, ◌==◌};
-ghost use Rattle.syntax.specs.Bytes.{white, digit, hex, escaped, mark, sign};
+ghost use Rattle.syntax.specs.Bytes.{white, digit, hex, unescaped, escaped, mark, sign};
 ghost use Rattle.syntax.specs.Machine.{next_digits, ended, next_letters, plain};
 
 use syntax::{Digits, Letters};
@@ -14,13 +14,20 @@ pub(crate) fn is_white(b: u8) -> bool
 fn is_digit(b: u8) -> bool
     ensures { result ≡ digit b }
 {
-    matches!(b, b'0'..=b'9')
+    b.is_ascii_digit()
 }
 
 fn is_hex(b: u8) -> bool
     ensures { result ≡ hex b }
 {
-    matches!(b, b'0'..=b'9' | b'A'..=b'F' | b'a'..=b'f')
+    b.is_ascii_hexdigit()
+}
+
+// What stands for itself in a string.
+pub(crate) fn is_unescaped(b: u8) -> bool
+    ensures { result ≡ unescaped b }
+{
+    b >= b' ' && b != b'"' && b != b'\\'
 }
 
 // What may follow a backslash, but for the u.

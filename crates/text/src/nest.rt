@@ -1,59 +1,53 @@
-// A value, by recursion with the depth that is left.
-ghost use Rattle.std.specs.Prelude.{◌≡◌, ◌<◌, ◌≤◌, false, length, take, slice_index, slice_index_or};
+// A value, by recursion with the depth that is left. The text and a place stay two parameters, and the turns of a loop pass the place on:
+// a struct of both would be taken apart again at each call, which is no plainer.
+ghost use Rattle.std.specs.Prelude.{◌≡◌, ◌<◌, ◌-◌, false, length, slice_index, slice_index_or};
 ghost use Rattle.syntax.specs.Bytes.{white};
 ghost use Rattle.syntax.specs.Machine.{limits, live, value as value_mode};
-ghost use Rattle.names.specs.Repeats.{Ascending};
 ghost use Rattle.text.specs.Scans.{Reads};
-ghost use Rattle.text.specs.Rows.{Room, Gathers};
+ghost use Rattle.text.specs.Rows.{Room, Leaves};
 
-use crate::faults::{malformed, repeated, too_deep};
+use crate::fault;
+use crate::open_names::OpenNames;
 use crate::part::Part;
-use crate::rows::note;
 use crate::scalars::scalar;
 use crate::scan::{colon, name, skip, stands};
-use names::{Name, first_repeat};
-use syntax::{Fault, Kind};
+use syntax::{Cause, Fault, Kind};
 
 // The value whose first byte has to stand at `at`, in which `depth` brackets may open one inside the other.
-// Where names are to be distinct, `names` has rows for all that can come.
+// Where names are to be distinct, `names` has room for all that can come.
 #[cycle(nesting)]
-pub(crate) fn value_here(
+pub(crate) fn value_here<N: OpenNames>(
     s: &[u8],
     at: usize,
     depth: usize,
-    distinct: bool,
-    names: &mut [Name],
+    names: &mut N,
 ) -> Result<Part, Fault>
     requires solid { at < length s.now → white (slice_index s.now at) ≡ false }
-    requires room { Room distinct s.now at names.old }
-    ensures { Reads (limits distinct) (live value_mode) depth s.now at result }
+    requires room { Room N.distinct s.now at (N.capacity - length (N.kept names.old)) }
+    ensures same { N.kept names.new ≡ N.kept names.old }
+    ensures reads { Reads (limits N.distinct) (live value_mode) depth s.now at result }
 {
     if at >= s.len() {
-        return Err(malformed(at));
+        return Err(fault(Cause::Malformed, at));
     }
     match s[at] {
-        b'[' => array(s, at, depth, distinct, names),
-        b'{' => object(s, at, depth, distinct, names),
+        b'[' => array(s, at, depth, names),
+        b'{' => object(s, at, depth, names),
         _ => scalar(s, at),
     }
 }
 
 // The array whose bracket stands at `open`.
 #[cycle(nesting)]
-fn array(
-    s: &[u8],
-    open: usize,
-    depth: usize,
-    distinct: bool,
-    names: &mut [Name],
-) -> Result<Part, Fault>
+fn array<N: OpenNames>(s: &[u8], open: usize, depth: usize, names: &mut N) -> Result<Part, Fault>
     requires within { «open» < length s.now }
     requires bracket { slice_index_or s.now «open» 0 ≡ 91 }
-    requires room { Room distinct s.now «open» names.old }
-    ensures { Reads (limits distinct) (live value_mode) depth s.now «open» result }
+    requires room { Room N.distinct s.now «open» (N.capacity - length (N.kept names.old)) }
+    ensures same { N.kept names.new ≡ N.kept names.old }
+    ensures reads { Reads (limits N.distinct) (live value_mode) depth s.now «open» result }
 {
     if depth == 0 {
-        return Err(too_deep(open));
+        return Err(fault(Cause::TooDeep, open));
     }
     let mut i = skip(s, open + 1);
     if stands(s, i, b']') {
@@ -63,8 +57,9 @@ fn array(
             end: i + 1,
         });
     }
+    // no `for`: where the next item begins is known only when this one was read
     'items: loop {
-        let item = value_here(s, i, depth - 1, distinct, names)?;
+        let item = value_here(s, i, depth - 1, names)?;
         let close = skip(s, item.end);
         if stands(s, close, b']') {
             return Ok(Part {
@@ -74,7 +69,7 @@ fn array(
             });
         }
         if !stands(s, close, b',') {
-            return Err(malformed(close));
+            return Err(fault(Cause::Malformed, close));
         }
         i = skip(s, close + 1);
     }
@@ -82,47 +77,32 @@ fn array(
 
 // The object whose brace stands at `open`. A repeated name in it stands before whatever else is wrong with it.
 #[cycle(nesting)]
-fn object(
-    s: &[u8],
-    open: usize,
-    depth: usize,
-    distinct: bool,
-    names: &mut [Name],
-) -> Result<Part, Fault>
+fn object<N: OpenNames>(s: &[u8], open: usize, depth: usize, names: &mut N) -> Result<Part, Fault>
     requires within { «open» < length s.now }
     requires brace { slice_index_or s.now «open» 0 ≡ 123 }
-    requires room { Room distinct s.now «open» names.old }
-    ensures { Reads (limits distinct) (live value_mode) depth s.now «open» result }
+    requires room { Room N.distinct s.now «open» (N.capacity - length (N.kept names.old)) }
+    ensures same { N.kept names.new ≡ N.kept names.old }
+    ensures reads { Reads (limits N.distinct) (live value_mode) depth s.now «open» result }
 {
     if depth == 0 {
-        return Err(too_deep(open));
+        return Err(fault(Cause::TooDeep, open));
     }
-    let mut count = 0;
-    let read = members(s, open, depth, distinct, names, &mut count);
-    if let Some(place) = first_repeat(s, &mut names[0..count]) {
-        return Err(repeated(place as usize));
+    let mark = names.count();
+    let read = members(s, open, depth, names);
+    if let Some(name) = names.close(s, mark) {
+        return Err(fault(Cause::RepeatedName, name.end as usize));
     }
     read
 }
 
-// The same, with the names of the object itself left uncompared in the first `count` rows.
+// The same, with the names of the object itself left uncompared behind those that `names` has.
 #[cycle(nesting)]
-fn members(
-    s: &[u8],
-    open: usize,
-    depth: usize,
-    distinct: bool,
-    names: &mut [Name],
-    count: &mut usize,
-) -> Result<Part, Fault>
+fn members<N: OpenNames>(s: &[u8], open: usize, depth: usize, names: &mut N) -> Result<Part, Fault>
     requires within { «open» < length s.now }
     requires brace { slice_index_or s.now «open» 0 ≡ 123 }
     requires shallow { 0 < depth }
-    requires room { Room distinct s.now «open» names.old }
-    requires none { count.old ≡ 0 }
-    ensures few { count.new ≤ length names.new }
-    ensures up { Ascending (take count.new names.new) }
-    ensures reads { Gathers distinct depth s.now «open» (take count.new names.new) result }
+    requires room { Room N.distinct s.now «open» (N.capacity - length (N.kept names.old)) }
+    ensures { Leaves N.distinct depth s.now «open» (N.kept names.old) (N.kept names.new) result }
 {
     let mut i = skip(s, open + 1);
     if stands(s, i, b'}') {
@@ -132,11 +112,12 @@ fn members(
             end: i + 1,
         });
     }
+    // no `for`, as in an array
     'members: loop {
         let quote = name(s, i)?;
-        *count = note(names, *count, distinct, i, quote);
+        names.note(i, quote);
         let from = colon(s, quote + 1)?;
-        let member = value_here(s, skip(s, from), depth - 1, distinct, &mut names[*count..])?;
+        let member = value_here(s, skip(s, from), depth - 1, names)?;
         let close = skip(s, member.end);
         if stands(s, close, b'}') {
             return Ok(Part {
@@ -146,7 +127,7 @@ fn members(
             });
         }
         if !stands(s, close, b',') {
-            return Err(malformed(close));
+            return Err(fault(Cause::Malformed, close));
         }
         i = skip(s, close + 1);
     }

@@ -1,9 +1,13 @@
+// The parts of a text.
 use syntax::Kind;
 
-// A value in a text: its kind, the place of its first byte, and the place past its last.
+/// A value in a text.
 #[derive(Clone, Copy, Debug, PartialEq, Eq)]
 pub struct Part {
+    /// What it is.
     pub kind: Kind,
+    /// The place of its first byte.
     pub start: usize,
+    /// The place past its last byte.
     pub end: usize,
 }

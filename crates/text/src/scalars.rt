@@ -4,10 +4,10 @@ ghost use Rattle.syntax.specs.Bytes.{white};
 ghost use Rattle.syntax.specs.Machine.{Rules, live, value as value_mode};
 ghost use Rattle.text.specs.Scans.{Reads};
 
-use crate::faults::malformed;
+use crate::fault;
 use crate::part::Part;
 use crate::scan::{number, string, word};
-use syntax::{Digits, Fault, Kind};
+use syntax::{Cause, Digits, Fault, Kind};
 
 // The string whose opening quote stands at `at`.
 fn quoted(s: &[u8], at: usize) -> Result<Part, Fault>
@@ -39,6 +39,6 @@ pub(crate) fn scalar(s: &[u8], at: usize) -> Result<Part, Fault>
         b'n' => word(s, at, b"ull", Kind::Null),
         b't' => word(s, at, b"rue", Kind::True),
         b'f' => word(s, at, b"alse", Kind::False),
-        _ => Err(malformed(at)),
+        _ => Err(fault(Cause::Malformed, at)),
     }
 }

@@ -3,7 +3,7 @@
 
 use std::io;
 
-// The most bytes that a text has.
+/// The most bytes that a text has.
 const LONGEST: usize = 1_048_576;
 
 fn main(rt: HostRuntime) -> io::Result<()> {
@@ -11,7 +11,7 @@ fn main(rt: HostRuntime) -> io::Result<()> {
     match text::read(&bytes) {
         Ok(_) => println!(rt; "ok"),
         Err(fault) => {
-            let cause = fault.cause as u8;
+            let cause = fault.cause.number();
             let place = fault.place;
             println!(rt; "{cause} {place}")
         }

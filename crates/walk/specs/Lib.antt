@@ -1,1 +1,2 @@
+pub mod Here
 pub mod Told

@@ -1,7 +1,8 @@
--- The bytes of the head, the count and the records so far.
-use Rattle.std.proofs.Common.{◌≡◌, ◌+◌, ◌*◌, ◌≤◌, length}
-use Rattle.packing.proofs.Sizes.{records}
+-- The bytes counted so far, and those of the pairs that are left.
+use Rattle.std.proofs.Common.{◌≡◌, ◌+◌, length}
+use Rattle.std.specs.List.{flat_map}
+use Rattle.bundle.specs.Layout.{record_of, written}
 use Rattle.packing.proofs.size.Given as goal
 
-abbrev pub invariant-loop-n : goal.invariant-loop-n
-invariant-loop-n g l = (l.total ≡ 7 + length (records (g.S.Store.pairs l.store) l.n)) × (l.total ≤ 7 + 1048836 * l.n)
+abbrev pub invariant-loop-pair : goal.invariant-loop-pair
+invariant-loop-pair g l = l.total + length (flat_map record_of l.pair-iterator) ≡ length (written (g.S.Store.pairs l.store))

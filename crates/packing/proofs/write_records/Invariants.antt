@@ -1,10 +1,14 @@
--- The records so far stand from place 7 on, and end at the place.
-use Rattle.std.proofs.Common.{◌≡◌, ◌+◌, length}
+-- What is left to write, written behind what is written, makes the whole.
+use Rattle.std.proofs.Common.{◌≡◌, ◌+◌, ◌≤◌, length}
+use Rattle.std.specs.List.{flat_map, AllByRecursion}
+use Rattle.bundle.specs.Layout.{record_of}
 use Rattle.packing.specs.Packing.{over}
-use Rattle.packing.proofs.Sizes.{records}
+use Rattle.packing.proofs.Sizes.{Writable}
 use Rattle.packing.proofs.write_records.Given as goal
 
-abbrev pub invariant-loop-n : goal.invariant-loop-n
-invariant-loop-n g l =
-    (l.place ≡ 7 + length (records (g.S.Store.pairs l.store) l.n))
-    × (l.out ≡ over l.initial.out 7 (records (g.S.Store.pairs l.store) l.n))
+abbrev pub invariant-loop-pair : goal.invariant-loop-pair
+invariant-loop-pair g l = record {
+  whole : over l.out l.place (flat_map record_of l.pair-iterator) ≡ over l.initial.out l.initial.place (flat_map record_of (g.S.Store.pairs l.store));
+  room : l.place + length (flat_map record_of l.pair-iterator) ≤ length l.out;
+  writable : AllByRecursion Writable l.pair-iterator;
+}

@@ -1,27 +1,22 @@
-use Rattle.std.proofs.Common.{◌-◌, ◌<◌, length, refl, arith, length-take-le}
-use native.Mathlib.Nat.{sub-zero}
-use Rattle.store.specs.Paths.{cuts}
-use Rattle.store.proofs.Cuts.{cuts_lower, cuts_nearest, cuts_none, cuts_law}
+-- The front before the last slash is the nearest path above, unless that slash is the first byte.
+use Rattle.std.proofs.Common.{arith}
+use Rattle.store.proofs.Cuts.{cuts_nearest, cuts_first, cuts_none, cuts_law}
 use Rattle.store.proofs.paths.parent.Goals as goal
 
-pub loop-end-init : goal.loop-end-init
-unfolding cuts
-loop-end-init c = (omega arith, refl)
+pub returns-in_err-slash-clause-above : goal.returns-in_err-slash-clause-above
+returns-in_err-slash-clause-above c = rw c.from_residual.ensures (cuts_none c.args.path.now (rw c.in_err-slash.was at c.last_slash.ensures))
 
-pub returns-then-path-end-eq47 : goal.returns-then-path-end-eq47
-returns-then-path-end-eq47 c =
-    let end = c.loop-end.end in
-    let inside : end - 1 < length c.args.path.now = omega arith in
-    let len = length-take-le (end - 1) c.args.path.now (omega arith) in
-    simp sub-zero record {
-      above = cuts_nearest _ end (end - 1) (omega arith) c.loop-end.invariant.0 (omega arith) c.if-path-end-eq47.true c.loop-end.invariant.1;
-      front = rw len refl;
-      shorter = rw len inside;
-      law = cuts_law _;
-    }
+pub returns-in_err-slash-clause-law : goal.returns-in_err-slash-clause-law
+returns-in_err-slash-clause-law c = cuts_law c.args.path.now
 
-pub loop-end-preserved : goal.loop-end-preserved
-loop-end-preserved c = (omega arith, cuts_lower _ c.loop-end.end _ (omega arith) c.if-path-end-eq47.false c.loop-end.invariant.1)
+pub returns-in-0-clause-above : goal.returns-in-0-clause-above
+returns-in-0-clause-above c = cuts_first c.args.path.now (rw c.in-0.is at c.in_ok-slash.ensures)
 
-pub returns : goal.returns
-returns c = record { above = cuts_none _ c.loop-end.end (omega arith) c.loop-end.invariant.1; front = tt; shorter = tt; law = cuts_law _ }
+pub returns-in-0-clause-law : goal.returns-in-0-clause-law
+returns-in-0-clause-law c = cuts_law c.args.path.now
+
+pub returns-in_default-clause-above : goal.returns-in_default-clause-above
+returns-in_default-clause-above c = cuts_nearest c.args.path.now c.in_ok-slash.slash c.in_ok-slash.ensures (omega arith)
+
+pub returns-in_default-clause-law : goal.returns-in_default-clause-law
+returns-in_default-clause-law c = cuts_law c.args.path.now

@@ -13,4 +13,4 @@ pub returns-in-65537-to-1048576 : goal.returns-in-65537-to-1048576
 returns-in-65537-to-1048576 c = record { is = c.read_by-in-65537-to-1048576.ensures; accepts = accepts; one = one_value; tells = told; rows = rows }
 
 pub returns-in_default : goal.returns-in_default
-returns-in_default c = record { is = ap Err c.too_long.ensures ∙ out_long c.args.text.now (omega arith); accepts = accepts; one = one_value; tells = told; rows = rows }
+returns-in_default c = record { is = ap Err c.fault.ensures ∙ out_long c.args.text.now (omega arith); accepts = accepts; one = one_value; tells = told; rows = rows }

@@ -16,4 +16,4 @@ pub returns : goal.returns
 returns c =
     let s = c.args.text.now in
     let i = c.args.at in
-    c.ok.ensures.value ∙ found s i c.value_here.result (comes false s i c.skip.result c.value_here.result c.skip.ensures.is c.value_here.ensures)
+    c.ok.ensures.value ∙ found s i c.value_here.result (comes false s i c.skip.result c.value_here.result c.skip.ensures.is c.value_here.ensures.reads)

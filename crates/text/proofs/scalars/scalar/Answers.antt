@@ -37,4 +37,4 @@ returns-in_default c =
       | in_default-via-then-this-lt48 w ↦ inl (omega (arith, w))
       | in_default-via-else-this-lt48+else-this-lt58 w ↦ inr (omega (arith, w))
     ] in
-    λ r d k n. fails r c.args.s.now c.args.at _ _ c.requires.within (no_first r k b _ c.requires.solid not34 c.requires.bracket c.requires.brace not45 out not110 not116 not102) ∙ ap fault (sym c.malformed.ensures)
+    λ r d k n. fails r c.args.s.now c.args.at _ _ c.requires.within (no_first r k b _ c.requires.solid not34 c.requires.bracket c.requires.brace not45 out not110 not116 not102) ∙ ap fault (sym c.fault.ensures)

@@ -12,7 +12,7 @@ returns-then-not-stands c =
     λ r p ms q n k.
     over_gap r s c.args.at i (live (colon p ms q n) k) tt c.skip-i.ensures.is
     ∙ stuck r s i _ _ (λ h. cond-false _ _ _ (c.skip-i.ensures.stops h) ∙ cond-false _ _ _ (ne_eqb _ 58 (c.stands.ensures.left c.if-not-stands.true h))) (λ h. refl)
-    ∙ ap fault (sym c.malformed.ensures)
+    ∙ ap fault (sym c.fault.ensures)
 
 pub returns : goal.returns
 returns c =

@@ -11,7 +11,7 @@ use Rattle.text.proofs.scan.name.Goals as goal
 pub returns-then-not-stands : goal.returns-then-not-stands
 returns-then-not-stands c = λ r p ms k.
     stuck r c.args.s.now c.args.at (live (name p ms) k) _ (λ h. cond-false _ _ _ (c.requires h) ∙ cond-false _ _ _ (ne_eqb _ 34 (c.stands.ensures.left c.if-not-stands.true h))) (λ h. refl)
-    ∙ ap fault (sym c.malformed.ensures)
+    ∙ ap fault (sym c.fault.ensures)
 
 -- the string is the name, behind its opening quote
 quoted : (s : List ℕ) (i : ℕ) (r : Result ℕ Fault) → i < length s → get_or s i 0 ≡ 34 → Strings s (i + 1) r → Names s i r

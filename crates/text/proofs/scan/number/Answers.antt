@@ -17,7 +17,7 @@ returns-then-not-may_end c =
       | else-loop-end-test w ↦ λ h. absurd (omega (arith, w.loop-end-test.false))
       | then-loop-end-test+in_default w ↦ λ _. sym w.next_digits.ensures ∙ w.in_default.is
     ] in
-    λ r k. c.loop-end.invariant.2 r k ∙ digits_out r s i c.args.at g k stops (sym c.if-not-may_end.ensures) ∙ ap fault (sym c.malformed.ensures)
+    λ r k. c.loop-end.invariant.2 r k ∙ digits_out r s i c.args.at g k stops (sym c.if-not-may_end.ensures) ∙ ap fault (sym c.fault.ensures)
 
 pub returns : goal.returns
 returns c =

@@ -1,22 +1,17 @@
-use Rattle.std.proofs.Common.{sym, ◌∙◌, arith}
-use Rattle.syntax.proofs.Gaps.{gap_white, gap_solid, gap_end}
+use Rattle.std.proofs.Common.{◌+◌, ◌≤◌, length, ap, ◌∙◌, subst, arith, length-drop}
+use Rattle.std.specs.List.{prefix_len}
+use Rattle.syntax.specs.Bytes.{white}
+use Rattle.text.proofs.Scans.{Skipped, skipped}
 use Rattle.text.proofs.scan.skip.Goals as goal
+use Rattle.text.proofs.scan.skip.Goals.{After-whites}
 
-pub loop-i-preserved : goal.loop-i-preserved
-loop-i-preserved c = (omega arith, omega arith, c.loop-i.invariant.2 ∙ gap_white c.args.s.now c.loop-i.i c.loop-i-test.true (sym c.if-is_white.ensures))
+pub overflow_add-result : goal.overflow_add-result
+overflow_add-result c = omega (arith, c.whites.ensures.within, ap length c.from.ensures, length-drop c.args.at c.args.s.now)
 
-pub returns-else-is_white : goal.returns-else-is_white
-returns-else-is_white c = record {
-  is = sym (c.loop-i.invariant.2 ∙ gap_solid c.args.s.now c.loop-i.i c.loop-i-test.true (sym c.if-is_white.ensures));
-  from = c.loop-i.invariant.0;
-  within = c.loop-i.invariant.1;
-  stops = λ _. sym c.if-is_white.ensures;
-}
+here : (c : After-whites) → Skipped c.args.s.now c.args.at (c.args.at + c.whites.result)
+here c = skipped c.args.s.now c.args.at c.whites.result (c.whites.ensures.is ∙ ap (prefix_len white) c.from.ensures) (subst (λ l. c.whites.result ≤ length l) c.from.ensures c.whites.ensures.within)
 
-pub returns-after-loop-i : goal.returns-after-loop-i
-returns-after-loop-i c = record {
-  is = sym (c.loop-i.invariant.2 ∙ gap_end c.args.s.now c.loop-i.i c.loop-i-test.false);
-  from = c.loop-i.invariant.0;
-  within = c.loop-i.invariant.1;
-  stops = λ h. absurd (omega (arith, c.loop-i-test.false));
-}
+pub returns : goal.returns
+returns c =
+    let h = here (goal.at.returns c).After-whites in
+    record { is = h.is; from = omega arith; within = h.within; stops = h.stops }
