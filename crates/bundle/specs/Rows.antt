@@ -35,6 +35,10 @@ tells (suc m) bs n = halted (or_else (path_fault (from_record bs n)) (body_fault
 abbrev pub row_at : List ℕ → ℕ → Span
 row_at bs k = record { start = place_of bs k; end = place_of bs k + (1 + path_length bs k) }
 
+-- the paths of the first n records
+unfoldable pub rows_of : List ℕ → ℕ → List Span
+rows_of bs n = map (row_at bs) (range_with_len 0 n)
+
 -- the path of the record r that stands at the place p
 abbrev pub row_from : List ℕ → ℕ → Span
 row_from r p = record { start = p; end = p + (1 + path_size r) }
@@ -51,10 +55,6 @@ pub record Cuts (r : List ℕ) (p : ℕ) (old new : List Span) (pair : Pair) (be
 abbrev pub EndsAt : List ℕ → ℕ → List Span → List Span → Rule → Type 0
 EndsAt r p old new rule =
     ((path_fault r ≡ Some rule) × (new ≡ old)) ⊎ ((path_fault r ≡ None) × (body_fault r ≡ Some rule) × (new ≡ old ++ row_from r p ∷ []))
-
--- those of the first n records
-unfoldable pub rows_of : List ℕ → ℕ → List Span
-rows_of bs n = map (row_at bs) (range_with_len 0 n)
 
 -- A record is read in two steps: behind the path stand the body's length, the body, and the bytes behind it.
 unfoldable pub body_after : List ℕ → List ℕ

@@ -59,6 +59,7 @@ pub fn nearest<S: Search>(store: &S, path: &[u8]) -> Option<usize>
     ensures first { FirstFound (S.Store.pairs store.now) (cuts path.now) result }
     ensures longest { Nearest (S.Store.pairs store.now) path.now result }
 {
+    // A loop and not `find_map`: its contract was not enough for the check alone to find these clauses.
     for above in Ancestors::of(path) {
         if let Some(found) = store.find(above) {
             return Some(found);

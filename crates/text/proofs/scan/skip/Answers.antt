@@ -5,9 +5,6 @@ use Rattle.text.proofs.Scans.{Skipped, skipped}
 use Rattle.text.proofs.scan.skip.Goals as goal
 use Rattle.text.proofs.scan.skip.Goals.{After-whites}
 
-pub overflow_add-result : goal.overflow_add-result
-overflow_add-result c = omega (arith, c.whites.ensures.within, ap length c.from.ensures, length-drop c.args.at c.args.s.now)
-
 here : (c : After-whites) → Skipped c.args.s.now c.args.at (c.args.at + c.whites.result)
 here c = skipped c.args.s.now c.args.at c.whites.result (c.whites.ensures.is ∙ ap (prefix_len white) c.from.ensures) (subst (λ l. c.whites.result ≤ length l) c.from.ensures c.whites.ensures.within)
 

@@ -26,9 +26,6 @@ returns c =
     ] in
     λ r e q k. c.loop-i.invariant.2 r e q k ∙ chars_out r s i c.args.at o e q k stops ∙ ap fault (sym c.fault.ensures)
 
-pub overflow_add-i : goal.overflow_add-i
-overflow_add-i c = omega (arith, c.plain_bytes.ensures.within, ap length c.from.ensures, length-drop c.args.at c.args.s.now)
-
 pub loop-i-init : goal.loop-i-init
 loop-i-init c = (
   omega arith,
