@@ -228,7 +228,7 @@ module _ (s : List ℕ) (i : ℕ) where
   no_members e = members_none s i (ap (w.member_of s) (sym e))
 
   -- what is no string is no member's name
-  unnamed : (v : Value) → text v ≡ None → w.member_of s (Some v) ≡ None
+  pub unnamed : (v : Value) → text v ≡ None → w.member_of s (Some v) ≡ None
   unnamed (literal p j x) e = refl
   unnamed (number p j n) e = refl
   unnamed (string p j n) e = cc
@@ -253,7 +253,7 @@ module _ (s : List ℕ) (i : ℕ) where
   named (object p j ms) n e = cc
 
   module _ (v : Value) (e : Some v ≡ value_at s i) (n : List ℕ) (d : text v ≡ Some n) where
-    stands : member_at s i ≡ option_map (w.member_step s (from v) n) (behind s (to v))
+    pub stands : member_at s i ≡ option_map (w.member_step s (from v) n) (behind s (to v))
     stands = ap (w.member_of s) (sym e) ∙ named v n d
 
     pub bare_members : None ≡ behind s (to v) → members_from s i ≡ []

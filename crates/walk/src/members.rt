@@ -33,7 +33,7 @@ pub struct Members<'a> {
 }
 
 // The value behind a colon that comes from `end` on.
-fn behind_colon(text: &[u8], end: usize) -> Option<Value<'_>>
+pub(crate) fn behind_colon(text: &[u8], end: usize) -> Option<Value<'_>>
     ensures { option_map spelled result ≡ behind text.now end }
 {
     let colon = skip(text, end);

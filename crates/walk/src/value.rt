@@ -22,7 +22,7 @@ pub struct Value<'a> {
 }
 
 // The bytes from `start` up to `end`, as far as the text has them.
-fn cut(text: &[u8], start: usize, end: usize) -> &[u8]
+pub(crate) fn cut(text: &[u8], start: usize, end: usize) -> &[u8]
     ensures { result.now ≡ between start end text.now }
 {
     let stop = end.min(text.len());
@@ -96,6 +96,14 @@ impl<'a> Value<'a> {
     {
         let Value { text, .. } = self;
         text
+    }
+
+    // Its kind and its places.
+    pub(crate) fn part(self) -> Part
+        ensures { result ≡ part_of (spelled self.entry) }
+    {
+        let Value { part, .. } = self;
+        part
     }
 
     /// Its kind.
