@@ -1,11 +1,11 @@
 -- What is listed of a book, from what is read of its text and told of its members.
-use Rattle.std.proofs.Common.{◌≡◌, ℕ, ◌+◌, ◌<◌, ◌≤◌, true, false, leb, List, map, length, Some, None, Ok, Err, Result, sym, refl, ap, ◌∙◌, arith}
+use Rattle.std.proofs.Common.{◌≡◌, ℕ, ◌+◌, true, false, leb, List, map, length, Some, None, Ok, Err, sym, refl, ap, ◌∙◌, arith}
 use Rattle.std.proofs.lemmas.Bool.{cond-true, cond-false, leb-true}
 use Rattle.syntax.specs.declared.kinds.Fault.{Fault}
 use Rattle.syntax.specs.Value.{Value, Members, literal, number, string, array, object}
 use Rattle.syntax.specs.Contents.{fields}
-use Rattle.syntax.specs.Reading.{reading, longest}
-use Rattle.syntax.specs.Walking.{Member, listed, members_from}
+use Rattle.syntax.specs.Reading.{reading}
+use Rattle.syntax.specs.Walking.{Member, listed}
 use Rattle.syntax.proofs.Sound.{accepted}
 use Rattle.syntax.proofs.Walks.{walks}
 use Rattle.book.specs.declared.refusal.BookRefusal.TheVariants.{Text, NoObject, TooMany, UnlawfulPath}

@@ -4,7 +4,7 @@ use Rattle.std.specs.List.{between, AllByRecursion}
 use Rattle.std.proofs.ByRecursion.{All-get_or, All-weaker}
 use Rattle.std.proofs.lemmas.List.{get_or-map, get_or_past, length-map}
 use Rattle.syntax.specs.Bytes.{gap}
-use Rattle.syntax.specs.Value.{string, from, to}
+use Rattle.syntax.specs.Value.{string, from}
 use Rattle.syntax.specs.Reading.{longest}
 use Rattle.syntax.specs.Walking.{Member, Step, member_at, members_from, rest_members}
 use Rattle.syntax.proofs.Walks.{read_place, member_made, member_name, members_none, members_more, string_end}

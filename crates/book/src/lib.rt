@@ -1,7 +1,7 @@
 //! A search store over a lent text, whose object has the paths for names and the bodies for values.
 #![tactic(auto)]
 
-ghost use Rattle.std.specs.Prelude.{◌≡◌, length, take, drop};
+ghost use Rattle.std.specs.Prelude.{◌≡◌, ◌≤◌, length, take, drop};
 ghost use Rattle.store.specs.Pairs.{Lawful, path_at, body_at};
 ghost use Rattle.book.specs.Listing.{opened, path_place, body_place};
 ghost use Rattle.book.specs.Laws.{Passes, LawfulStore};
@@ -13,20 +13,21 @@ mod refusal;
 mod row;
 mod table;
 
-use arrayvec::ArrayVec;
 pub use checking::check;
 pub use refusal::BookRefusal;
 use row::Row;
-use std::alloc::AllocError;
 use store::{MAX_PAIRS, Search, Store};
-use table::table_of;
+use table::fill;
 
 /// An open book: its bytes, and the places of its paths and bodies.
-#[derive(Drop)]
+#[derive(Clone, Copy)]
 pub struct Book<'a> {
     text: &'a [u8],
-    rows: ArrayVec<Row, MAX_PAIRS>,
-    ghost keeps: { Keeps text.now rows.items },
+    // An array and how many of its rows are used: a book is `Copy`, which an `ArrayVec` is not.
+    rows: [Row; MAX_PAIRS],
+    count: usize,
+    ghost in_range: { count ≤ length rows },
+    ghost keeps: { Keeps text.now (take count rows) },
     ghost lawful: { Lawful (opened text.now) },
 }
 
@@ -36,21 +37,17 @@ pub fn open<'a>(text: &'a [u8]) -> Book<'a>
     ensures passes { Passes }
     ensures lawful { LawfulStore }
 {
-    Book {
-        text,
-        rows: table_of(text),
-    }
+    let mut rows: [Row; MAX_PAIRS] = Default::default();
+    let count = fill(&mut rows, text);
+    Book { text, rows, count }
 }
 
-/// Another book over the same bytes, which are read again.
-// by hand: the clone of its table might fail
-impl<'a> Clone for Book<'a> {
-    ghost is_clone = { λ book clone. clone.text.now ≡ book.text.now };
-
-    ghost is_infallible = { λ _. Unit {0} };
-
-    fn clone(&self) -> Result<Book<'a>, AllocError> {
-        Ok(open(self.text))
+impl<'a> Book<'a> {
+    // The rows that are used.
+    fn rows(&self) -> &[Row]
+        ensures { result.now ≡ take self.now.count self.now.rows }
+    {
+        &self.rows[..self.count]
     }
 }
 
@@ -58,7 +55,7 @@ impl<'a> Store for Book<'a> {
     ghost pairs = { λ b. opened b.text.now };
 
     fn count(&self) -> usize {
-        self.rows.len()
+        self.count
     }
 
     // Apart from `body`, as the trait has it: one function for both would be told the part by a closure, and be no plainer.
@@ -66,7 +63,7 @@ impl<'a> Store for Book<'a> {
         ensures contents { result.now ≡ path_at (opened self.now.text.now) n }
         ensures place { result.now ≡ take (length result.now) (drop (path_place self.now.text.now n) self.now.text.now) }
     {
-        match self.rows.get(n) {
+        match self.rows().get(n) {
             Some(row) => &self.text[row.path.start as usize..row.path.end as usize],
             None => &[],
         }
@@ -76,7 +73,7 @@ impl<'a> Store for Book<'a> {
         ensures contents { result.now ≡ body_at (opened self.now.text.now) n }
         ensures place { result.now ≡ take (length result.now) (drop (body_place self.now.text.now n) self.now.text.now) }
     {
-        match self.rows.get(n) {
+        match self.rows().get(n) {
             Some(row) => &self.text[row.body.start as usize..row.body.end as usize],
             None => &[],
         }

@@ -1,5 +1,5 @@
 // The table of a book's pairs, filled in one walk through its object.
-ghost use Rattle.std.specs.Prelude.{◌≡◌, ◌≤◌, length, map};
+ghost use Rattle.std.specs.Prelude.{◌≡◌, ◌≤◌, length, map, take};
 ghost use Rattle.std.specs.List.{AllByRecursion};
 ghost use Rattle.syntax.specs.Reading.{longest};
 ghost use Rattle.walk.specs.Told.{member_spelled, members_left};
@@ -8,7 +8,6 @@ ghost use Rattle.book.specs.Rows.{Ends, Keeps, row_of};
 
 use crate::checking::examine;
 use crate::row::Row;
-use arrayvec::ArrayVec;
 use names::Span;
 use store::MAX_PAIRS;
 use walk::{Member, Members};
@@ -31,25 +30,28 @@ fn row(member: Member) -> Row
     }
 }
 
-// A row for each of the members.
-fn tabulate(members: Members) -> ArrayVec<Row, MAX_PAIRS>
+// A row for each of the members, from the first row on, and how many there are.
+fn tabulate(rows: &mut [Row; MAX_PAIRS], members: Members) -> usize
     requires few { length (members_left members) ≤ most }
     requires ends { AllByRecursion (Ends longest) (members_left members) }
-    ensures { result.items ≡ map row_of (members_left members.entry) }
+    ensures within { result ≤ length rows.new }
+    ensures rows { take result rows.new ≡ map row_of (members_left members.entry) }
 {
-    let mut rows = ArrayVec::new();
+    let mut count = 0;
     for member in members {
-        rows.push(row(member));
+        rows[count] = row(member);
+        count += 1;
     }
-    rows
+    count
 }
 
-// The table of a book, with no rows where the check refuses the bytes.
-pub(crate) fn table_of(text: &[u8]) -> ArrayVec<Row, MAX_PAIRS>
-    ensures { Keeps text.now result.items }
+// The rows of a book, from the first on, and how many there are: none where the check refuses the bytes.
+pub(crate) fn fill(rows: &mut [Row; MAX_PAIRS], text: &[u8]) -> usize
+    ensures within { result ≤ length rows.new }
+    ensures keeps { Keeps text.now (take result rows.new) }
 {
     match examine(text) {
-        Ok(members) => tabulate(members),
-        Err(_) => ArrayVec::new(),
+        Ok(members) => tabulate(rows, members),
+        Err(_) => 0,
     }
 }
