@@ -1,3 +1,4 @@
 pub mod Rows
 pub mod Sorted
 pub mod Order
+pub mod Each

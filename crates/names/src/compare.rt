@@ -31,3 +31,47 @@ pub(crate) fn order(text: &[u8], a: Span, b: Span) -> Ordering
         .cmp(bytes(text, b))
         .then_with(|| (a.start, a.end).cmp(&(b.start, b.end)))
 }
+
+// The eight bytes from a place on as one number, the first byte the lowest.
+fn eight(text: &[u8], at: usize) -> u64
+    requires { at + 8 ≤ length text.now }
+{
+    u64::from_le_bytes([
+        text[at],
+        text[at + 1],
+        text[at + 2],
+        text[at + 3],
+        text[at + 4],
+        text[at + 5],
+        text[at + 6],
+        text[at + 7],
+    ])
+}
+
+// Whether a comes before b, where eight bytes of both from the same place on tell it.
+#[inline(always)]
+fn eight_tell(text: &[u8], a: Span, b: Span, past: usize) -> Option<bool>
+    requires { past ≤ 8 }
+{
+    let (i, j) = (a.start as usize + 1 + past, b.start as usize + 1 + past);
+    if i + 8 <= text.len() && j + 8 <= text.len() {
+        let (x, y) = (eight(text, i), eight(text, j));
+        let alike = ((x ^ y).trailing_zeros() / 8) as usize;
+        if alike < 8 && i + alike < a.end as usize && j + alike < b.end as usize {
+            return Some(x.swap_bytes() < y.swap_bytes());
+        }
+    }
+    None
+}
+
+// Whether a comes before b in this order, by their first sixteen bytes where these tell. No proof uses the answer: only speed hangs on it.
+#[inline(always)]
+pub(crate) fn ahead(text: &[u8], a: Span, b: Span) -> bool {
+    if let Some(told) = eight_tell(text, a, b, 0) {
+        return told;
+    }
+    if let Some(told) = eight_tell(text, a, b, 8) {
+        return told;
+    }
+    order(text, a, b).is_lt()
+}

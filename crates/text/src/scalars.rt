@@ -24,6 +24,8 @@ fn quoted(s: &[u8], at: usize) -> Result<Part, Fault>
 }
 
 // The string, number or literal whose first byte stands at `at`.
+// The hint: it has two callers, one for each kind of open names, and would be a call for every value.
+#[inline(always)]
 pub(crate) fn scalar(s: &[u8], at: usize) -> Result<Part, Fault>
     requires within { at < length s.now }
     requires solid { white (slice_index s.now at) ≡ false }

@@ -41,7 +41,12 @@ pub fn skip(s: &[u8], at: usize) -> usize
     ensures within { at ≤ length s.now → result ≤ length s.now }
     ensures stops { result < length s.now → white (slice_index s.now result) ≡ false }
 {
-    at + whites(from(s, at))
+    // Most often no white space comes, and one byte tells it.
+    if at < s.len() && is_white(s[at]) {
+        at + whites(from(s, at))
+    } else {
+        at
+    }
 }
 
 // Whether `b` stands at `at`.
@@ -53,6 +58,8 @@ pub(crate) fn stands(s: &[u8], at: usize, b: u8) -> bool
 }
 
 // The number whose first byte, at `at`, brought it to `start`.
+// The hint: most numbers are short, and a call would be a good part of what they cost.
+#[inline(always)]
 pub(crate) fn number(s: &[u8], at: usize, start: Digits) -> Result<Part, Fault>
     requires { at < length s.now }
     ensures { Numbers start s.now at result }
@@ -99,6 +106,9 @@ pub(crate) fn string(s: &[u8], at: usize) -> Result<usize, Fault>
     requires { at ≤ length s.now }
     ensures { Strings s.now at result }
 {
+    if stands(s, at, b'"') {
+        return Ok(at);
+    }
     // Most strings have nothing else before their closing quote.
     let mut i = at + plain_bytes(from(s, at));
     let mut spot = Letters::Plain;
