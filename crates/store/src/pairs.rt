@@ -1,8 +1,6 @@
 //! The pairs of a store, one after the other.
-ghost use Rattle.std.specs.Prelude.{◌≡◌, List, drop};
-ghost use Rattle.std.specs.Iterator.{YieldsFirstBy, item_count};
+ghost use Rattle.std.specs.Prelude.{◌≡◌, List, drop, length};
 ghost use Rattle.store.specs.Pairs as meaning;
-ghost use Rattle.store.specs.Lent.{pair_of};
 
 use crate::Store;
 use std::marker::Model;
@@ -19,6 +17,9 @@ pub struct Pair<'a> {
 pub struct Pairs<'a, S: Store> {
     store: &'a S,
     next: usize,
+    // asked once: a store may have to go through all of its pairs to count them
+    count: usize,
+    ghost counted: { count ≡ length (S.pairs store.now) },
 }
 
 impl<'a, S: Store> Model for Pairs<'a, S> {
@@ -32,11 +33,18 @@ impl<'a, S: Store> Pairs<'a, S> {
     pub fn of(store: &'a S) -> Pairs<'a, S>
         ensures { result ≡ S.pairs store.now }
     {
-        Pairs { store, next: 0 }
+        Pairs {
+            store,
+            next: 0,
+            count: store.count(),
+        }
     }
 }
 
 impl<'a, S: Store> Iterator for Pairs<'a, S> {
+    ghost use Rattle.std.specs.Iterator.{YieldsFirstBy, item_count};
+    ghost use Rattle.store.specs.Lent.{pair_of};
+
     type Item = Pair<'a>;
 
     ghost next_gives = { YieldsFirstBy pair_of (λ p. p) };
@@ -44,7 +52,7 @@ impl<'a, S: Store> Iterator for Pairs<'a, S> {
     ghost remaining = { item_count (λ p. p) };
 
     fn next(&mut self) -> Option<Pair<'a>> {
-        if self.next >= self.store.count() {
+        if self.next >= self.count {
             return None;
         }
         let pair = Pair {
