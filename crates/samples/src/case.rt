@@ -41,31 +41,47 @@ fn bytes_of(heap: Global, written: &[u8]) -> Result<Vec<u8>, AllocError> {
     Ok(bytes)
 }
 
-// The verdict that a line begins with, 0, a count and 0 of what is accepted; and what stands behind it.
-fn wanted(line: &str) -> Option<(Verdict, &str)> {
-    let (number, behind) = line.split_once(' ')?;
-    let (cause, behind) = behind.split_once(' ')?;
-    let (place, written) = behind.split_once(' ')?;
-    let number = number.parse().ok()?;
-    let place = place.parse().ok()?;
+// The decimal number at the front, and what stands behind the byte that ends it, whichever that is. Without digits it is 0, and one beyond the largest
+// `usize` is that.
+fn decimal(line: &[u8]) -> (usize, &[u8]) {
+    let mut value = 0usize;
+    let mut rest = line;
+    while let [digit @ b'0'..=b'9', behind @ ..] = rest {
+        value = value
+            .saturating_mul(10)
+            .saturating_add((*digit - b'0') as usize);
+        rest = behind;
+    }
+    match rest {
+        [_, behind @ ..] => (value, behind),
+        [] => (value, rest),
+    }
+}
+
+// The verdict of the three numbers that a line begins with, 0, a count and 0 of what is accepted; and what stands behind them. No sample comes out
+// with a place and the number 0, nor with a refusal's number or cause over 255.
+fn wanted(line: &[u8]) -> Option<(Verdict, &[u8])> {
+    let (number, behind) = decimal(line);
+    let (cause, behind) = decimal(behind);
+    let (place, written) = decimal(behind);
     let verdict = match (number, place) {
-        (0, 0) => Ok(cause.parse().ok()?),
+        (0, 0) => Ok(cause),
         (0, _) => return None,
         _ => Err(Refused {
-            number,
-            cause: cause.parse().ok()?,
+            number: u8::try_from(number).ok()?,
+            cause: u8::try_from(cause).ok()?,
             place,
         }),
     };
     Some((verdict, written))
 }
 
-/// The sample of a line, if the line begins with a verdict.
+/// The sample of a line, if its three numbers are a verdict's.
 pub fn parse(heap: Global, line: &str) -> Result<Option<Case>, AllocError> {
-    match wanted(line) {
+    match wanted(line.as_bytes()) {
         Some((wanted, written)) => Ok(Some(Case {
             wanted,
-            bytes: bytes_of(heap, written.as_bytes())?,
+            bytes: bytes_of(heap, written)?,
         })),
         None => Ok(None),
     }

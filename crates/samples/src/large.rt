@@ -4,7 +4,7 @@ use std::alloc::{AllocError, Global};
 use std::io;
 
 // The bytes `before`, `unit` so many times, and `behind`.
-pub fn filled(
+fn filled(
     heap: Global,
     before: &[u8],
     unit: &[u8],

@@ -1,6 +1,5 @@
 // Bundles and books, and both at their limits.
 use crate::Verdict;
-use crate::large::filled;
 use bundle::Bundle;
 use refused::Refused;
 use std::alloc::{AllocError, Global};
@@ -50,7 +49,7 @@ fn bundle_of(heap: Global, records: usize, body: usize) -> Result<Vec<u8>, Alloc
         bytes.push(5)?;
         bytes.extend_from_slice(&path(n))?;
         bytes.extend_from_slice(&((body & 0xffff_ffff) as u32).to_be_bytes())?;
-        bytes.extend_from_slice(&filled(heap, b"", b"x", body, b"")?)?;
+        bytes.resize(bytes.len().saturating_add(body), b'x')?;
     }
     Ok(bytes)
 }
@@ -97,7 +96,7 @@ fn bundle_limits(rt: &HostRuntime) -> io::Result<()> {
     show(
         rt,
         "16,777,217 bytes",
-        of_bundle(&filled(heap, b"", b"\x00", 16_777_217, b"")?),
+        of_bundle(&vec![in heap; 0; 16_777_217]?),
     )
 }
 
